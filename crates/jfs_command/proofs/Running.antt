@@ -5,7 +5,7 @@ use Rattle.jfs_bits.specs.Count.{Rose}
 use Rattle.jfs_bits.specs.Broken.{first_broken}
 use Rattle.jfs_bits.specs.declared.descriptor.Moment.{Moment}
 use Rattle.jfs_disk.specs.Image.{Image, page_of, ArePages}
-use Rattle.jfs_disk.specs.Crash.{DiskState, last_of}
+use Rattle.jfs_disk.specs.Crash.{DiskState, Leaves, last_of}
 use Rattle.jfs_disk.specs.Moment.{IsResting}
 use Rattle.jfs_disk.specs.declared.disk.Disk.{Ghosts}
 use Rattle.jfs_findings_new.specs.meaning.specs.Image.{IsConsistentImage}
@@ -14,7 +14,8 @@ use Rattle.jfs_findings_new.specs.mount_rules.specs.Mount.{broken_mount}
 use Rattle.jfs_run.specs.Calls.{NoCalls}
 use Rattle.jfs_run.specs.Left.{IsLeftRun}
 use Rattle.jfs_run.specs.Legal.{IsLegalRun, LeavesImage}
-use Rattle.jfs_run.specs.kept_history.specs.Checked.{IsCheckedImage}
+use Rattle.jfs_run.specs.kept_history.specs.Keepable.{IsKeepableImage}
+use Rattle.jfs_run.specs.kept_history.specs.Failed.{LeavesUnmounted}
 use Rattle.jfs_run.specs.Run.{StayBeside}
 use Rattle.jfs_io.specs.declared.source.Source.{Ghosts as SourceMembers}
 use Rattle.jfs_plain.specs.declared.call.Line.{Line}
@@ -41,11 +42,12 @@ use Rattle.jfs_command.specs.Scripts.{ScriptsEnd}
 use Rattle.jfs_command.specs.Superblock.{superblock_of, AfterRules, Looks}
 use Rattle.jfs_command.specs.Top.{PerformsBy}
 use Rattle.jfs_command.specs.Order.{Planned, Order, by_scripts, Asks}
-use Rattle.jfs_command.specs.Run.{IsOfScripts, front_text, whole_text, calls_of, Start, cleaned, is_ready, IsRedoneBy, BeginsOn, as_it_is, as_redone, AreReplies, CallsNone, MayBegin, LinesSay, RunSays, refuses, takes, HasRun, HasOnlyRedone, BeginsOnRedone, Runs, Spares, HasBegunRedo, FailsOn, RunsOutOn, Stopped as StopsBy, HasFailed, HasRunOut, DoesLines, LinesEnd, run_meaning}
+use Rattle.jfs_command.specs.Run.{IsOfScripts, front_text, whole_text, calls_of, Start, cleaned, is_ready, IsRedoneBy, BeginsOn, as_it_is, as_redone, AreReplies, CallsNone, MayBegin, LinesSay, RunSays, refuses, takes, HasRun, HasOnlyRedone, BeginsOnRedone, Runs, Spares, HasBegunRedo, FailsOn, RunsOutOn, Stopped as StopsBy, RestsAtFirst, HasFailed, HasRunOut, DoesLines, LinesEnd, run_meaning}
 use Rattle.jfs_command.proofs.SuperblockLemmas.{same_first}
 use Rattle.jfs_command.proofs.Evidence.{held_as, some_held, has_page8}
 use Rattle.jfs_command.proofs.Looking.{ShowsSame, faults_of, ends_as, Seen, seen, goes_on}
 use Rattle.jfs_command.proofs.RedoSaid.{long}
+use Rattle.jfs_command.proofs.RunLines.{fails_where}
 use Rattle.jfs_command.proofs.RunSaid.{IsOrder, order_is, same_lines, same_run, one_run}
 
 moved : (P : Super → Image → Type 0) (s t : Super) (a b : Image) → s ≡ t → a ≡ b → P s a → P t b
@@ -95,6 +97,11 @@ module _ {D : Type 0} (d : Ghosts D) (old mid new : D) (s : Super) (p : Planned)
 
   risen : HasRisen (faults_of d mid new) → HasRisen (faults_of d old new)
   risen rose = subst (λ (n : ℕ). Rose n (d.fault_count new)) ran.looked.4 rose
+
+  -- where nothing was pending at first, nothing is behind the look at the superblock
+  rests_at_mid : d.tells_crashes → RestsAtFirst (superblock_of found.held) found.held → RestsAtFirst s (held_of d mid)
+  rests_at_mid k (inl mounted) = inl (subst (λ (u : Super). is_mounted u.state.0 ≡ true) found.block mounted)
+  rests_at_mid k (inr rests) = inr (subst (λ (past : List DiskState). IsResting (last_of past)) (found.is.past k ∙ sym (ran.past k)) rests)
 
   -- what is said of the superblock and the image is said of what the disk held at first
   from_mid : (P : Super → Image → Type 0) → d.tells → P s (d.image mid) → P (superblock_of found.held) found.held.image
@@ -153,22 +160,34 @@ module _ {D : Type 0} (d : Ghosts D) (old mid new : D) (s : Super) (p : Planned)
       superblock = λ not_left t. back (λ st. page_of (d.image new) 8 ≡ page_of st.image 8) t (did.superblock not_left t);
       stable = did.stable;
       image = λ not_left t. back (λ st. LeavesImage st.super st.image now outcome.history.items (d.image new)) t (did.image not_left t);
-      left = λ is t k. back (λ st. IsCheckedImage st.super st.image → IsLeftRun st.super st.image now (calls_of work) (last_of (d.past new))) t (did.left is t k);
+      left = λ t k. back (λ st. IsKeepableImage st.super st.image → IsLeftRun st.super st.image now is_left (calls_of work) (last_of (d.past new))) t (did.left t k);
     }
 
     only_redone : HasOnlyRedone d.tells d.tells_crashes start work → HasOnlyRedone d.tells d.tells_crashes first.at work
     only_redone did = record { history = did.history; told = did.told; text = did.text ∙ sym first.text; image = λ t. back (λ st. d.image new ≡ st.image) t (did.image t); stable = did.stable }
 
-    fails : FailsOn d.tells d.tells_crashes p is_left now start work → FailsOn d.tells d.tells_crashes p is_left now first.at work
-    fails did = record {
+    lefts : (d.tells → d.tells_crashes → IsKeepableImage start.super start.image → NoCalls (calls_of work) ⊎ IsLeftRun start.super start.image now is_left (calls_of work) (last_of (d.past new)))
+        → d.tells → d.tells_crashes → IsKeepableImage first.at.super first.at.image → NoCalls (calls_of work) ⊎ IsLeftRun first.at.super first.at.image now is_left (calls_of work) (last_of (d.past new))
+    lefts did = λ t k. back (λ st. IsKeepableImage st.super st.image → NoCalls (calls_of work) ⊎ IsLeftRun st.super st.image now is_left (calls_of work) (last_of (d.past new))) t (did t k)
+
+    -- where the disk failed, the premise is of what the disk held at first too
+    fails : FailsOn d.tells d.tells_crashes p is_left now start (RestsAtFirst s (held_of d mid)) work → FailsOn d.tells d.tells_crashes p is_left now first.at (RestsAtFirst (superblock_of found.held) found.held) work
+    fails did = fails_where d.tells d.tells_crashes p is_left now first.at work (RestsAtFirst s (held_of d mid)) (RestsAtFirst (superblock_of found.held) found.held) rests_at_mid (record {
       called = called did.called;
       replies = replies did.replies;
       text = behind_first (front_text p.printed (calls_of work)) did.text;
-      left = λ is t k. back (λ st. IsCheckedImage st.super st.image → NoCalls (calls_of work) ⊎ IsLeftRun st.super st.image now (calls_of work) (last_of (d.past new))) t (did.left is t k);
-    }
+      left = λ t k. back (λ st. IsKeepableImage st.super st.image → (NoCalls (calls_of work) × (RestsAtFirst s (held_of d mid) → Leaves (LeavesUnmounted st.super st.image) (last_of (d.past new)))) ⊎ IsLeftRun st.super st.image now is_left (calls_of work) (last_of (d.past new))) t (did.left t k);
+    })
 
-    runs_out : RunsOutOn (faults_of d mid new) d.tells p now start work → RunsOutOn (faults_of d old new) d.tells p now first.at work
-    runs_out did = record { called = called did.called; told = told_by did.told; calm = told_by did.calm; replies = replies did.replies; text = text_by did.text }
+    runs_out : RunsOutOn (faults_of d mid new) d.tells d.tells_crashes p is_left now start work → RunsOutOn (faults_of d old new) d.tells d.tells_crashes p is_left now first.at work
+    runs_out did = record {
+      called = called did.called;
+      told = told_by did.told;
+      calm = told_by did.calm;
+      replies = replies did.replies;
+      text = text_by did.text;
+      left = lefts did.left;
+    }
       where
         told_by : {A : Type 0} → HasRisen (faults_of d mid new) ⊎ A → HasRisen (faults_of d old new) ⊎ A
         told_by (inl rose) = inl (risen rose)
@@ -231,7 +250,8 @@ module _ {D : Type 0} (d : Ghosts D) (old mid new : D) (s : Super) (p : Planned)
           planned = p;
           taken = good;
           looked = (8, ((p, good), inl (refl, looks8)));
-          done = stops_by (λ start. FailsOn d.tells d.tells_crashes p is_left now start work) (λ start. FailsOn d.tells d.tells_crashes p is_left now start work) fails did;
+          done = stops_by (λ start. FailsOn d.tells d.tells_crashes p is_left now start (RestsAtFirst s (held_of d mid)) work)
+              (λ start. FailsOn d.tells d.tells_crashes p is_left now start (RestsAtFirst (superblock_of found.held) found.held) work) fails did;
           spares = spares ready;
         },
         (risen rose, refl),
@@ -239,8 +259,8 @@ module _ {D : Type 0} (d : Ghosts D) (old mid new : D) (s : Super) (p : Planned)
   by_end (Stopped stops.Memory) is_end (did, ready) =
       ends_as d (run_meaning is_left order now) old new outcome found.held (Stopped stops.Memory) is_end found.is (λ sources. (
         record {
-          done = stops_by (λ start. RunsOutOn (faults_of d mid new) d.tells p now start work)
-              (λ start. (l : Planned) × Asks order (Ok l) × RunsOutOn (faults_of d old new) d.tells l now start work) (λ start first it. (p, good, runs_out start first it)) did;
+          done = stops_by (λ start. RunsOutOn (faults_of d mid new) d.tells d.tells_crashes p is_left now start work)
+              (λ start. (l : Planned) × Asks order (Ok l) × RunsOutOn (faults_of d old new) d.tells d.tells_crashes l is_left now start work) (λ start first it. (p, good, runs_out start first it)) did;
           spares = spares ready;
         },
         tt,
@@ -260,8 +280,8 @@ module _ {D : Type 0} (d : Ghosts D) (old new : D) (outcome : Outcome) (same : S
   nothing_done : ChangesNothing d.tells d.tells_crashes held (work_of outcome (held_of d new))
   nothing_done = record { history = same.history; told = same.told; image = λ t. same.image t ∙ sym (is.image t); past = λ t. same.past t ∙ sym (is.past t) }
 
-  run_out : (disk : Count) (order : Order) → outcome.text.items ≡ [] → HasRunOut disk d.tells d.tells_crashes order now held (work_of outcome (held_of d new))
-  run_out disk order no_text = record { done = inl (no_text, nothing_done); spares = λ none. nothing_done }
+  run_out : (disk : Count) (order : Order) (is_left : Bool) → outcome.text.items ≡ [] → HasRunOut disk d.tells d.tells_crashes order is_left now held (work_of outcome (held_of d new))
+  run_out disk order is_left no_text = record { done = inl (no_text, nothing_done); spares = λ none. nothing_done }
 
   failed : (p : Planned) (order : Order) (is_left : Bool) → Asks order (Ok p) → 9 ≤ d.page_count old → outcome.text.items ≡ [] → HasFailed d.tells d.tells_crashes order is_left now held (work_of outcome (held_of d new))
   failed p order is_left good there no_text = record {
@@ -292,7 +312,7 @@ not_looked d old new (Stopped stops.Disk) outcome is_left now p order is_order g
 not_looked d old new (Stopped stops.Memory) outcome is_left now p order is_order good pages there same no_text is_end =
     let it = some_held d old pages in
     ends_as d (run_meaning is_left order now) old new outcome (held_as d old it.shown) (Stopped stops.Memory) is_end it.is
-    (λ sources. (run_out d old new outcome same now it.shown it.is (faults_of d old new) order no_text, tt))
+    (λ sources. (run_out d old new outcome same now it.shown it.is (faults_of d old new) order is_left no_text, tt))
 not_looked d old new (Stopped stops.Scripts) outcome is_left now p order is_order good pages h same no_text is_end = absurd h
 not_looked d old new (Own _) outcome is_left now p order is_order good pages h same no_text is_end = absurd h
 
@@ -351,7 +371,7 @@ module _ {D S : Type 0} (d : Ghosts D) (s : SourceMembers S) (is_left : Bool) (n
       ends_by (held_as d old it.shown) (Stopped stops.Scripts) is_end it.is (no_text, (rose, stays, nothing_done d old new outcome same now it.shown it.is))
   not_read (Stopped stops.Memory) pages same stays no_text is_end free =
       let it = some_held d old pages in
-      ends_by (held_as d old it.shown) (Stopped stops.Memory) is_end it.is (run_out d old new outcome same now it.shown it.is (faults_of d old new) (by_scripts texts) no_text, tt)
+      ends_by (held_as d old it.shown) (Stopped stops.Memory) is_end it.is (run_out d old new outcome same now it.shown it.is (faults_of d old new) (by_scripts texts) is_left no_text, tt)
   not_read (Stopped stops.Disk) pages same stays no_text is_end h = absurd h
 
 -- ---- without scripts
@@ -362,4 +382,4 @@ pub not_begun : {D : Type 0} (d : Ghosts D) (disk : D) (order : Order) (is_left 
 not_begun d disk order is_left now outcome pages same no_text is_end =
     let it = some_held d disk pages in
     ends_as d (run_meaning is_left order now) disk disk outcome (held_as d disk it.shown) (Stopped stops.Memory) is_end it.is
-    (λ sources. (run_out d disk disk outcome same now it.shown it.is (faults_of d disk disk) order no_text, tt))
+    (λ sources. (run_out d disk disk outcome same now it.shown it.is (faults_of d disk disk) order is_left no_text, tt))

@@ -2,7 +2,7 @@
 use Rattle.std.specs.Prelude.{◌≡◌, ◌⊎◌, ℕ, ⊤, Bool, true, false, ◌||◌, List, [], ◌++◌, length, Option, Some, None, Ok, Err}
 use Rattle.jfs_bits.specs.declared.descriptor.Moment.{Moment}
 use Rattle.jfs_disk.specs.Image.{Image, page_of, ArePages}
-use Rattle.jfs_disk.specs.Crash.{DiskState, last_of}
+use Rattle.jfs_disk.specs.Crash.{DiskState, Leaves, last_of}
 use Rattle.jfs_disk.specs.Moment.{IsResting}
 use Rattle.jfs_ranges.specs.declared.edit.Edit.{Edit}
 use Rattle.jfs_super.specs.declared.fields.Super.{Super}
@@ -21,7 +21,8 @@ use Rattle.jfs_run.specs.Calls.{Calls, HaveEntries, AllTold, NoCalls, AllCalled,
 use Rattle.jfs_run.specs.Left.{IsLeftRun}
 use Rattle.jfs_run.specs.Legal.{IsLegalRun, LeavesImage}
 use Rattle.jfs_run.specs.Run.{StayBeside}
-use Rattle.jfs_run.specs.kept_history.specs.Checked.{IsCheckedImage}
+use Rattle.jfs_run.specs.kept_history.specs.Keepable.{IsKeepableImage}
+use Rattle.jfs_run.specs.kept_history.specs.Failed.{LeavesUnmounted}
 use Rattle.jfs_command.specs.declared.status.Status.{Status}
 use Rattle.jfs_command.specs.declared.status.Status.TheVariants as statuses
 use Rattle.jfs_command.specs.declared.status.Stop.{Stop}
@@ -145,7 +146,7 @@ calls_of work = record { history = work.history; told = work.told }
 abbrev pub AreReplies : (tells : Type 0) → Super → Image → Moment → List Entry → Type 0
 AreReplies tells s image now history = tells → IsConsistentImage s (page_of image) → IsLegalRun s (page_of image) now history
 
--- Each client's lines were called, in their order, each entry that waits was told durable, and the text is that of both. Unless the volume was to be left, it was unmounted: page 8 is the one that it had, and a crash leaves all of the disk, which is an image of the tree behind the last reply. Where it was to be left, and a check found nothing on the image at first, redo makes of whatever a crash leaves of the disk what a front of the calls leaves, with all that were told durable.
+-- Each client's lines were called, in their order, each entry that waits was told durable, and the text is that of both. Unless the volume was to be left, it was unmounted: page 8 is the one that it had, and a crash leaves all of the disk, which is an image of the tree behind the last reply. Where the image was keepable at first, as one on which a check finds nothing and one that was redone behind a run's crash, redo makes of whatever a crash leaves of the disk what a front of the calls leaves, with all that were told durable; or that is such an image, where the volume wasn't to be left.
 pub record HasRun (tells crashes : Type 0) (p : Planned) (is_left : Bool) (now : Moment) (start : Start) (work : Work) : Type 0 where
   pub entries : HaveEntries p.plan work.history
   pub told : AllTold (calls_of work)
@@ -156,7 +157,7 @@ pub record HasRun (tells crashes : Type 0) (p : Planned) (is_left : Bool) (now :
   pub superblock : is_left ≡ false → tells → page_of work.held.image 8 ≡ page_of start.image 8
   pub stable : is_left ≡ false → crashes → IsResting (last_of work.held.past)
   pub image : is_left ≡ false → tells → LeavesImage start.super start.image now work.history work.held.image
-  pub left : is_left ≡ true → tells → crashes → IsCheckedImage start.super start.image → IsLeftRun start.super start.image now (calls_of work) (last_of work.held.past)
+  pub left : tells → crashes → IsKeepableImage start.super start.image → IsLeftRun start.super start.image now is_left (calls_of work) (last_of work.held.past)
 
 -- it was redone, and nothing else
 pub record HasOnlyRedone (tells crashes : Type 0) (start : Start) (work : Work) : Type 0 where
@@ -198,41 +199,47 @@ pub record HasBegunRedo (tells crashes : Type 0) (s : Super) (held : Held) (work
   pub stays : tells → StaysBehind (blocks_of s) held.image work.held.image
   pub meanwhile : StaysRedoable tells crashes s held work.held
 
--- The disk failed before the volume was mounted, and no line was called; or later, and then each was. Also then, where the volume was to be left, redo makes of whatever a crash leaves of the disk what a front of the calls leaves, with all that were told durable.
-pub record FailsOn (tells crashes : Type 0) (p : Planned) (is_left : Bool) (now : Moment) (start : Start) (work : Work) : Type 0 where
+-- The disk failed before the volume was mounted, and no line was called; or later, and then each was. Also then redo makes of whatever a crash leaves of the disk what a front of the calls leaves, with all that were told durable; or that is a clean image of the tree behind the last reply, where the volume was being unmounted. Where no line was called, and nothing was pending where calls begin, a crash leaves the tree that they begin on, or a disk that is redone to it.
+pub record FailsOn (tells crashes : Type 0) (p : Planned) (is_left : Bool) (now : Moment) (start : Start) (rests : Type 0) (work : Work) : Type 0 where
   pub called : CallsNone tells start work ⊎ (AllCalled p.plan (calls_of work) × MayBegin tells start)
   pub replies : AreReplies tells start.super start.image now work.history
   pub text : work.text ≡ start.text ++ front_text p.printed (calls_of work)
-  pub left : is_left ≡ true → tells → crashes → IsCheckedImage start.super start.image → NoCalls (calls_of work) ⊎ IsLeftRun start.super start.image now (calls_of work) (last_of work.held.past)
+  pub left : tells → crashes → IsKeepableImage start.super start.image
+      → (NoCalls (calls_of work) × (rests → Leaves (LeavesUnmounted start.super start.image) (last_of work.held.past))) ⊎ IsLeftRun start.super start.image now is_left (calls_of work) (last_of work.held.past)
 
--- Memory ran out: a front of each client's lines was called, and unless a call on the disk failed each of their entries that waits was told, and none was refused for a fault. Where there was none for the text, none is printed.
-pub record RunsOutOn (disk : Count) (tells : Type 0) (p : Planned) (now : Moment) (start : Start) (work : Work) : Type 0 where
+-- Memory ran out: a front of each client's lines was called, and unless a call on the disk failed each of their entries that waits was told, and none was refused for a fault. Where there was none for the text, none is printed. Also then, unless no line was called, a crash leaves what redo makes a front of the calls of, or the image of a volume that was unmounted.
+pub record RunsOutOn (disk : Count) (tells crashes : Type 0) (p : Planned) (is_left : Bool) (now : Moment) (start : Start) (work : Work) : Type 0 where
   pub called : CallsNone tells start work ⊎ (SomeCalled p.plan (calls_of work) × MayBegin tells start)
   pub told : HasRisen disk ⊎ AllTold (calls_of work)
   pub calm : HasRisen disk ⊎ (any_failed work.history ≡ false)
   pub replies : AreReplies tells start.super start.image now work.history
   pub text : (work.text ≡ start.text ++ front_text p.printed (calls_of work)) ⊎ (work.text ≡ [])
+  pub left : tells → crashes → IsKeepableImage start.super start.image → NoCalls (calls_of work) ⊎ IsLeftRun start.super start.image now is_left (calls_of work) (last_of work.held.past)
 
 -- nothing was done yet; or redo was stopped; or the calls were
 abbrev pub Stopped : (tells crashes : Type 0) → (Start → Type 0) → Super → Held → Work → Type 0
 Stopped tells crashes calls s held work =
     ((work.text ≡ []) × ChangesNothing tells crashes held work) ⊎ (HasBegunRedo tells crashes s held work ⊎ ((start : Start) × BeginsOn tells s held.image start × calls start))
 
+-- nothing is pending on the disk where calls begin: a volume that is mounted is redone first, and synced
+abbrev pub RestsAtFirst : Super → Held → Type 0
+RestsAtFirst s held = (is_mounted s.state.0 ≡ true) ⊎ IsResting (last_of held.past)
+
 pub record HasFailed (tells crashes : Type 0) (order : Order) (is_left : Bool) (now : Moment) (held : Held) (work : Work) : Type 0 where
   pub planned : Planned
   pub taken : Asks order (Ok planned)
   pub looked : (n : ℕ) × LooksAtRun order held n
-  pub done : Stopped tells crashes (λ start. FailsOn tells crashes planned is_left now start work) (superblock_of held) held work
+  pub done : Stopped tells crashes (λ start. FailsOn tells crashes planned is_left now start (RestsAtFirst (superblock_of held) held) work) (superblock_of held) held work
   pub spares : Spares tells crashes order held work
 
-pub record HasRunOut (disk : Count) (tells crashes : Type 0) (order : Order) (now : Moment) (held : Held) (work : Work) : Type 0 where
-  pub done : Stopped tells crashes (λ start. (p : Planned) × Asks order (Ok p) × RunsOutOn disk tells p now start work) (superblock_of held) held work
+pub record HasRunOut (disk : Count) (tells crashes : Type 0) (order : Order) (is_left : Bool) (now : Moment) (held : Held) (work : Work) : Type 0 where
+  pub done : Stopped tells crashes (λ start. (p : Planned) × Asks order (Ok p) × RunsOutOn disk tells crashes p is_left now start work) (superblock_of held) held work
   pub spares : Spares tells crashes order held work
 
 abbrev pub RunStops : Stop → Faults → (tells crashes : Type 0) → Order → Bool → Moment → Held → Work → Type 0
 RunStops stops.Scripts faults tells crashes order is_left now held work = work.text ≡ []
 RunStops stops.Disk faults tells crashes order is_left now held work = HasFailed tells crashes order is_left now held work
-RunStops stops.Memory faults tells crashes order is_left now held work = HasRunOut faults.disk tells crashes order now held work
+RunStops stops.Memory faults tells crashes order is_left now held work = HasRunOut faults.disk tells crashes order is_left now held work
 
 abbrev pub run_meaning : Bool → Order → Moment → Meaning
 run_meaning is_left order now = record {
@@ -288,8 +295,8 @@ DoesOn _ tells crashes p is_left now start past work = ⊥
 abbrev pub StartEnds : (tells crashes : Type 0) → Planned → Bool → Moment → Start → List DiskState → Work → Count → End → Type 0
 StartEnds tells crashes p is_left now start past work disk (Own status) =
     (rest : Answer) × CleanSays tells p start.super start.image rest × (rest.status ≡ status) × (work.text ≡ start.text ++ rest.text) × DoesOn status tells crashes p is_left now start past work × Stays disk
-StartEnds tells crashes p is_left now start past work disk (ByStop stops.Disk) = FailsOn tells crashes p is_left now start work × HasRisen disk
-StartEnds tells crashes p is_left now start past work disk (ByStop stops.Memory) = RunsOutOn disk tells p now start work
+StartEnds tells crashes p is_left now start past work disk (ByStop stops.Disk) = FailsOn tells crashes p is_left now start (IsResting (last_of past)) work × HasRisen disk
+StartEnds tells crashes p is_left now start past work disk (ByStop stops.Memory) = RunsOutOn disk tells crashes p is_left now start work
 StartEnds tells crashes p is_left now start past work disk (ByStop stops.Scripts) = ⊥
 
 abbrev pub DoesLines : Status → (tells crashes : Type 0) → Planned → Bool → Moment → Super → Held → Work → Type 0
@@ -303,7 +310,7 @@ abbrev pub LinesEnd : (tells crashes : Type 0) → Planned → Bool → Moment �
 LinesEnd tells crashes p is_left now s held work disk (Own status) =
     LinesSay tells p held.image s (record { status = status; text = work.text }) × DoesLines status tells crashes p is_left now s held work × IsOwn status × Stays disk
 LinesEnd tells crashes p is_left now s held work disk (ByStop stops.Disk) =
-    Stopped tells crashes (λ start. FailsOn tells crashes p is_left now start work) s held work × HasRisen disk × (is_ready s.state.0 ≡ true)
+    Stopped tells crashes (λ start. FailsOn tells crashes p is_left now start (RestsAtFirst s held) work) s held work × HasRisen disk × (is_ready s.state.0 ≡ true)
 LinesEnd tells crashes p is_left now s held work disk (ByStop stops.Memory) =
-    Stopped tells crashes (λ start. RunsOutOn disk tells p now start work) s held work × (is_ready s.state.0 ≡ true)
+    Stopped tells crashes (λ start. RunsOutOn disk tells crashes p is_left now start work) s held work × (is_ready s.state.0 ≡ true)
 LinesEnd tells crashes p is_left now s held work disk (ByStop stops.Scripts) = ⊥

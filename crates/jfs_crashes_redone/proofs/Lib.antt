@@ -4,4 +4,5 @@ pub mod Facts
 pub mod Places
 pub mod Rules
 pub mod Can
+pub mod Sound
 pub mod Redone

@@ -11,6 +11,7 @@ use Rattle.jfs_records.specs.Redo.{all_of}
 use Rattle.jfs_super.specs.Rules.{blocks_of}
 use Rattle.jfs_super.specs.declared.fields.Super.{Super}
 use Rattle.jfs_shown.proofs.Places.{files_law, keeps_law}
+use Rattle.jfs_shown.specs.Laws.{SamePlaces}
 use Rattle.jfs_shown.specs.meaning.specs.Readers.{readers}
 use Rattle.jfs_shown.specs.objects.specs.Image.{area_on}
 use Rattle.jfs_log_readings.specs.Readings.{committed_by}
@@ -37,7 +38,8 @@ use Rattle.jfs_held_volumes.specs.Held.{Held, IsHeld}
 use Rattle.jfs_held_volumes.specs.Laws.{IsFront}
 use Rattle.jfs_held_volumes.proofs.Crash.{crash_law as held_crash}
 use Rattle.jfs_held_maps.specs.Maps.{KeepsMaps}
-use Rattle.jfs_mounted_places.specs.Mounted.{mount_of}
+use Rattle.jfs_mounted_places.specs.Mounted.{SetsPast, mount_of}
+use Rattle.jfs_mounted_places.specs.Places.{places_of}
 use Rattle.jfs_redo.specs.Log.{AreCommitted}
 use Rattle.jfs_redo.specs.Partly.{MapsStandApart}
 use Rattle.jfs_redo.specs.Redo.{IsRedone, IsRefusal, RedoIs}
@@ -54,6 +56,7 @@ use Rattle.jfs_crashes_redone.proofs.Facts.{AreFacts}
 use Rattle.jfs_crashes_redone.proofs.Lists.{all_committed}
 use Rattle.jfs_crashes_redone.proofs.Places as found
 use Rattle.jfs_crashes_redone.proofs.Rules.{unbroken}
+use Rattle.jfs_crashes_redone.proofs.Sound as sound
 use Rattle.jfs_crashes_redone.proofs.Window as log_of
 
 joined : (r : Readers) (u v w : Volume) → IsSameVolume r u v → IsSameVolume r v w → IsSameVolume r u w
@@ -159,19 +162,31 @@ module _ (s : Super) (mounted : Pages) (x : Held) (old : Image) (held : IsHeld (
     area_is : (b : ℕ) → area_on r s.ait2 s.aim2 (image core n) b ≡ pl.area b
     area_is b = ap (λ (q : Places). q.area b) (facts.stands n low).places
 
+    kept_places : SamePlaces r s.ait2 s.aim2 (image core n) by_core.made
+    kept_places = files_law r s.ait2 s.aim2 (image core n) by_core.made
+        (keeps_law r s.ait2 s.aim2 (at (image core n)) by_core.made (facts.stands n low).sound.agrees (λ b. refl) (facts.stands n low).files (λ b other some none. let a = area_is b in in_place b (omega (arith, a, some))))
+
     whole : HasWholeFiles r by_core.made
-    whole = (files_law r s.ait2 s.aim2 (image core n) by_core.made
-        (keeps_law r s.ait2 s.aim2 (at (image core n)) by_core.made (facts.stands n low).sound.agrees (λ b. refl) (facts.stands n low).files (λ b other some none. let a = area_is b in in_place b (omega (arith, a, some))))).whole (facts.stands n low).files
+    whole = kept_places.whole (facts.stands n low).files
 
     is_volume : IsSameVolume r (x.volumes n) (at (page_of new))
     is_volume = joined r (x.volumes n) (at by_core.made) (at (page_of new)) front.volume
         (superblock_law r (blocks_of s) s.ait2 s.aim2 by_core.made (page_of new) front.volume.sound whole by_core.same)
+
+    new_files : HasWholeFiles r (page_of new)
+    new_files = sound.files s pl (image core n) by_core.made (page_of new) (facts.stands n low) kept_places front.volume.sound whole by_core.same
+
+    new_past : SetsPast (places_of s (page_of new)) (page_of new)
+    new_past = sound.past s pl (image core n) by_core.made (page_of new) (facts.stands n low) kept_places front.volume.sound whole by_core.same _ _ in_window.maps
 
   -- ---- all of it
 
   is_txs : (others : List (List Edit)) → AreCommitted s.logpxd.len (blocks_of s) (drop s.logpxd.addr old) others → others ≡ txs
   unfolding w
   is_txs others is = log_of.is_window s x.both old crashed others is
+
+  by_txs : (others : List (List Edit)) (new : Image) → AreCommitted s.logpxd.len (blocks_of s) (drop s.logpxd.addr old) others → IsRedone s others old new → IsRedone s txs old new
+  by_txs others new is is_redone = subst (λ (all : List (List Edit)). IsRedone s all old new) (is_txs others is) is_redone
 
   unbroken_maps : broken_maps (subject_of s (page_of old)) ≡ None
   unbroken_maps = unbroken s pl core left old facts c n log
@@ -193,8 +208,9 @@ module _ (s : Super) (mounted : Pages) (x : Held) (old : Image) (held : IsHeld (
     unbroken = unbroken_maps;
     apart = λ others is. subst (λ (all : List (List Edit)). MapsStandApart s all old) (sym (is_txs others is)) (apart s pl core left old facts (λ k within. (held.images k within).bytes) c n log low txs same);
     answered = answered;
-    redone = λ others new is is_redone sizes number.
-        is_volume new (subst (λ (all : List (List Edit)). IsRedone s all old new) (is_txs others is) is_redone) sizes number;
+    redone = λ others new is is_redone sizes number. is_volume new (by_txs others new is is_redone) sizes number;
+    files = λ others new is is_redone sizes number. new_files new (by_txs others new is is_redone) sizes number;
+    past = λ others new is is_redone sizes number. new_past new (by_txs others new is is_redone) sizes number;
   }
 
 pub crashed_law : CrashedLaw

@@ -22,10 +22,11 @@ use Rattle.jfs_redo.specs.mount_rules.specs.Subject.{subject_of}
 use Rattle.jfs_held_volumes.specs.survival.specs.halves.specs.Half.{Halves, low_in}
 use Rattle.jfs_held_volumes.specs.survival.specs.recovery.specs.Face.{Pages}
 use Rattle.jfs_held_volumes.specs.survival.specs.recovery.specs.objects.specs.Image.{volume_on}
-use Rattle.jfs_held_volumes.specs.survival.specs.recovery.specs.kinds.specs.Images.{IsSameVolume}
+use Rattle.jfs_held_volumes.specs.survival.specs.recovery.specs.kinds.specs.Images.{HasWholeFiles, IsSameVolume}
 use Rattle.jfs_held_volumes.specs.Held.{Mount, Held, IsHeld}
 use Rattle.jfs_held_maps.specs.Maps.{KeepsMaps}
-use Rattle.jfs_mounted_places.specs.Mounted.{mount_of}
+use Rattle.jfs_mounted_places.specs.Mounted.{SetsPast, mount_of}
+use Rattle.jfs_mounted_places.specs.Places.{places_of}
 
 -- ---- what a crash leaves
 
@@ -61,6 +62,10 @@ pub record IsRedoneToVolume (s : Super) (m : Mount) (x : Held) (old : Image) : T
   pub answered : (new : Image) (why : RedoError) → RedoIs s old new (Err why) → IsRefusal why → ⊥
   pub redone : (txs : List (List Edit)) (new : Image) → AreCommitted s.logpxd.len (blocks_of s) (drop s.logpxd.addr old) txs → IsRedone s txs old new → ArePages (length new) new → length new ≡ length old
       → IsSameVolume m.readers (x.volumes n) (volume_on m.readers m.blocks m.table m.map (page_of new))
+  -- No tree of the maps' files and of the bad blocks' breaks a rule there, and on the block map's last dmap the bits of blocks past the volume's end are set.
+  pub files : (txs : List (List Edit)) (new : Image) → AreCommitted s.logpxd.len (blocks_of s) (drop s.logpxd.addr old) txs → IsRedone s txs old new → ArePages (length new) new → length new ≡ length old → HasWholeFiles m.readers (page_of new)
+  pub past : (txs : List (List Edit)) (new : Image) → AreCommitted s.logpxd.len (blocks_of s) (drop s.logpxd.addr old) txs → IsRedone s txs old new → ArePages (length new) new → length new ≡ length old
+      → SetsPast (places_of s (page_of new)) (page_of new)
 
 abbrev pub CrashedLaw : Type 0
 CrashedLaw = (s : Super) (pages : Pages) (x : Held) (old : Image) → IsHeld (mount_of s pages) x → KeepsMaps (mount_of s pages) x → HasCrashed s x.both old → IsRedoneToVolume s (mount_of s pages) x old

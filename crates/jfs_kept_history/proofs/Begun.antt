@@ -1,6 +1,6 @@
 -- A volume that was just mounted is kept.
 use Rattle.std.specs.Bool.{⊤}
-use Rattle.std.proofs.Common.{◌≡◌, ◌≤◌, ◌-◌, [], ℕ, true, length, take, refl, ap, subst, ◌∙◌, arith}
+use Rattle.std.proofs.Common.{◌≡◌, ◌≤◌, ◌-◌, [], ℕ, true, length, take, refl, sym, ap, subst, ◌∙◌, arith}
 use Rattle.jfs_disk.specs.Image.{Image, page_of}
 use Rattle.jfs_super.specs.Geometry.{IsLayout, geometry_of}
 use Rattle.jfs_super.specs.Rules.{blocks_of}
@@ -13,12 +13,17 @@ use Rattle.jfs_legal.specs.served.specs.halves.specs.Log.{LogParts}
 use Rattle.jfs_legal.specs.served.specs.halves.specs.Parts.{Parts, StandsFor}
 use Rattle.jfs_legal.specs.served.specs.Legal.{IsLegal}
 use Rattle.jfs_legal.specs.served.specs.mounted.specs.Mount.{IsMountOf}
+use Rattle.jfs_legal.specs.served.specs.Holds.{volume_at}
+use Rattle.jfs_legal.specs.served.specs.shown.specs.meaning.specs.Consistent.{IsConsistent}
 use Rattle.jfs_legal.specs.served.specs.shown.specs.meaning.specs.Image as meaning
+use Rattle.jfs_legal.specs.served.specs.shown.specs.meaning.specs.Readers.{readers}
+use Rattle.jfs_legal.specs.served.specs.shown.specs.objects.specs.Volume.{Volume}
+use Rattle.jfs_legal.specs.served.specs.shown.specs.way.specs.Volume.{volume_of}
 use Rattle.jfs_calls_kept.specs.entries_kept.proofs.Newest.{newest_law}
 use Rattle.jfs_mounted_held.specs.Mounted.{low_of, from_mount}
 use Rattle.jfs_mounted_held.specs.mounted_places.specs.Mounted.{mount_of}
-use Rattle.jfs_mounted_maps.specs.Checked.{IsCheckedMount, IsHeldFromMount}
-use Rattle.jfs_mounted_maps.proofs.Checked.{checked_law, sound, superblock_law}
+use Rattle.jfs_mounted_maps.specs.Keepable.{IsKeepableMount, IsHeldFromMount}
+use Rattle.jfs_mounted_maps.proofs.Mounted.{mounted_law, sound, superblock_law}
 use Rattle.jfs_mounted_pages.proofs.Mounted.{mounted_law as pages_law}
 use Rattle.jfs_points_kept.specs.kept_volumes.specs.Keeper.{Keeper}
 use Rattle.jfs_points_kept.specs.kept_volumes.specs.Kept.{IsHeldAtRest, IsKept}
@@ -26,9 +31,9 @@ use Rattle.jfs_points_kept.specs.kept_volumes.specs.Rest.{IsAtRest}
 use Rattle.jfs_points_kept.specs.kept_volumes.specs.joined_held.specs.Held.{blocks_at}
 use Rattle.jfs_kept_history.specs.Kept.{Reaches}
 use Rattle.jfs_kept_history.specs.Laws.{BeginLaw}
-use Rattle.jfs_kept_history.proofs.Checked.{checked_law as mounts_checked}
+use Rattle.jfs_kept_history.proofs.Keepable.{mount_to_keep}
 
-module _ (s : Super) (old : Image) (p : Parts) (log : LogParts) (m : IsMountOf ⊤ ⊥ s old p log) (checked : IsCheckedMount s old m.pages) where
+module _ (s : Super) (old : Image) (p : Parts) (log : LogParts) (m : IsMountOf ⊤ ⊥ s old p log) (to : IsKeepableMount s old m.pages) where
   abbrev ring : ℕ
   ring = s.logpxd.len - 2
 
@@ -39,13 +44,13 @@ module _ (s : Super) (old : Image) (p : Parts) (log : LogParts) (m : IsMountOf �
   keeper = record { both = (from_mount s old m).both; core = (from_mount s old m).core; volumes = (from_mount s old m).volumes }
 
   layout : IsLayout (geometry_of s)
-  layout = accepted_layout s (length old) checked.accepted
+  layout = accepted_layout s (length old) to.accepted
 
   size : blocks_at p ≡ blocks_of s
   size = ap (λ map. length map.states) m.has_maps.0 ∙ m.rest.number
 
   start : IsHeldFromMount s old p log m
-  start = checked_law s old p log m checked
+  start = mounted_law s old p log m to
 
   shown : Shown
   shown = record { pages = m.pages; map = m.maps.blocks; inodes = m.maps.inodes }
@@ -72,11 +77,14 @@ module _ (s : Super) (old : Image) (p : Parts) (log : LogParts) (m : IsMountOf �
   rests stands = record { held = start.held; stands = stands; rest = rest; maps = start.maps }
 
   pub kept : StandsFor true true p keeper.both.volume → IsKept (mount_of s (low_of m.pages)) area p keeper
-  kept stands = record { rests = rests stands; pages = pages_law s (length old) old p log m (sound s old p log m checked) start.maps.extents }
+  kept stands = record { rests = rests stands; pages = pages_law s (length old) old p log m (sound s old p log m to) start.maps.extents }
+
+  consistent : StandsFor true true p keeper.both.volume → IsConsistent (readers (blocks_of s)) (volume_at area p)
+  consistent stands = subst (λ (v : Volume). IsConsistent (readers (blocks_of s)) v) (λ i. volume_of (page_of (sym (stands.view refl) i)) area (sym m.has_maps.0 i) (sym m.has_maps.1 i)) (m.keeps tt to.keepable.consistent).consistent
 
   pub reached : StandsFor true true p keeper.both.volume → (k : ℕ) → k ≤ 0 → Reaches s (page_of old) p (take k []) (keeper.volumes k)
   reached stands k within = subst (λ (n : ℕ). Reaches s (page_of old) p (take n []) (keeper.volumes n)) (let none : 0 ≡ k = omega (arith, within) in none)
-      (record { last = p; legal = IsLegal.starts; same = newest_law (mount_of s (low_of m.pages)) area p keeper (rests stands) })
+      (record { last = p; legal = IsLegal.starts; same = newest_law (mount_of s (low_of m.pages)) area p keeper (rests stands); consistent = consistent stands })
 
 -- the mount, of a disk that tells its contents
 abbrev told_mount : (tells crashes : Type 0) → tells → (s : Super) (old : Image) (p : Parts) (log : LogParts) → IsMountOf tells crashes s old p log → IsMountOf ⊤ ⊥ s old p log
@@ -95,14 +103,14 @@ told_mount tells crashes told s old p log m = record {
 
 pub begin_law : (tells crashes : Type 0) → BeginLaw tells crashes
 begin_law tells crashes t c s old p log m image =
-    let checked = mounts_checked tells crashes t s old p log m image in
+    let to = mount_to_keep tells crashes t s old p log m image in
     let told = told_mount tells crashes t s old p log m in
     let stands = m.fresh true true (λ _. t) (λ _. c) in record {
       low = low_of m.pages;
-      keeper = keeper s old p log told checked;
-      superblock = ap super_of (superblock_law s old p log told checked) ∙ m.superblock t;
-      kept = kept s old p log told checked stands;
+      keeper = keeper s old p log told to;
+      superblock = ap super_of (superblock_law s old p log told to) ∙ m.superblock t;
+      kept = kept s old p log told to stands;
       history = refl;
       points_are = refl;
-      reached = reached s old p log told checked stands;
+      reached = reached s old p log told to stands;
     }

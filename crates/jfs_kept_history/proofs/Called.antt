@@ -14,7 +14,9 @@ use Rattle.jfs_legal.specs.served.specs.halves.specs.Entry.{Happened}
 use Rattle.jfs_legal.specs.served.specs.halves.specs.Parts.{Parts}
 use Rattle.jfs_legal.specs.served.specs.plain.specs.declared.reply.Reply.{Reply}
 use Rattle.jfs_legal.specs.served.specs.volume.specs.Join.{entry_with}
+use Rattle.jfs_legal.specs.served.specs.shown.specs.meaning.specs.Consistent.{IsConsistent}
 use Rattle.jfs_legal.specs.served.specs.shown.specs.meaning.specs.Image as meaning
+use Rattle.jfs_legal.specs.served.specs.shown.specs.objects.specs.Readers.{Readers}
 use Rattle.jfs_legal.specs.served.specs.shown.specs.objects.specs.Volume.{Volume}
 use Rattle.jfs_legal.specs.served.specs.shown.specs.kinds.specs.Images.{IsSameVolume}
 use Rattle.jfs_legal.specs.served.specs.shown.specs.meaning.specs.Readers.{readers}
@@ -71,7 +73,12 @@ module _ (s : Super) (page : ℕ → List ℕ) (start : Parts) (list : List Last
     last : Reaches s page start (take (suc (length list)) (timed_in (list ++ more ∷ []))) (j.steps.keeper.volumes (suc (length list)))
     last = subst (λ (es : List Timed). Reaches s page start es (j.steps.keeper.volumes (suc (length list))))
         (sym (ap (λ (es : List Timed). take (suc (length list)) es) timed_more ∙ take_all (suc (length list)) (timed_in list ++ entry ∷ []) (let n = length-append (timed_in list) (entry ∷ []) in omega (arith, n, many))))
-        (record { last = new; legal = goes.legal; same = subst (λ (n : ℕ). IsSame n) number (newest_law (mount_of s k.low) (meaning.volume_of s page).area new j.steps.keeper j.steps.kept.rests) })
+        (record {
+          last = new;
+          legal = goes.legal;
+          same = subst (λ (n : ℕ). IsSame n) number (newest_law (mount_of s k.low) (meaning.volume_of s page).area new j.steps.keeper j.steps.kept.rests);
+          consistent = subst (λ (r : Readers). IsConsistent r (volume_at (meaning.volume_of s page).area new)) j.steps.kept.rests.held.readers_are goes.serves.holds.consistent;
+        })
       where
         IsSame : ℕ → Type 0
         IsSame n = IsSameVolume (readers (blocks_of s)) (j.steps.keeper.volumes n) (volume_at (meaning.volume_of s page).area new)

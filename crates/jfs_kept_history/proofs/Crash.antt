@@ -1,6 +1,7 @@
 -- Whatever a crash leaves of a kept volume is redone to its history.
-use Rattle.std.proofs.Common.{◌≤◌, length, sym, ap, ◌∙◌, arith}
-use Rattle.jfs_super.specs.Rules.{blocks_of}
+use Rattle.std.proofs.Common.{◌≤◌, ℕ, length, sym, ap, subst, ◌∙◌, arith}
+use Rattle.jfs_disk.specs.Image.{page_of}
+use Rattle.jfs_super.specs.Rules.{blocks_of, IsAccepted}
 use Rattle.jfs_super.specs.Super.{super_of}
 use Rattle.jfs_legal.specs.served.specs.Holds.{volume_at}
 use Rattle.jfs_legal.specs.served.specs.shown.specs.kinds.specs.Images.{IsSameVolume}
@@ -13,8 +14,9 @@ use Rattle.jfs_points_kept.specs.kept_volumes.specs.Logs.{kept_with}
 use Rattle.jfs_points_kept.specs.kept_volumes.specs.joined_held.specs.Held.{held_at}
 use Rattle.jfs_points_kept.specs.kept_volumes.proofs.Besides.{beside_law}
 use Rattle.jfs_mounted_held.specs.mounted_places.specs.Mounted.{mount_of}
-use Rattle.jfs_kept_history.specs.Crash.{CrashLaw}
+use Rattle.jfs_kept_history.specs.Crash.{CrashLaw, AgainLaw}
 use Rattle.jfs_kept_history.proofs.Same.{as_many}
+use Rattle.jfs_kept_history.proofs.Targets.{same_consistent}
 
 -- of two volumes like one the second is like the first
 between : (r : Readers) (u v w : Volume) → IsSameVolume r u v → IsSameVolume r u w → IsSameVolume r v w
@@ -46,12 +48,22 @@ crash_law s page start list points p log old k beside crashed =
       answered = done.answered;
       redone = λ txs new committed redone whole long. (
           let is = done.redone txs new committed redone whole long in
+          let same = between (readers (blocks_of s)) (k.keeper.volumes done.n) (meaning.volume_of s (page_of new)) (volume_at area reached.last) is reached.same in
           record {
-            sound = is.sound;
-            reached = record {
-              last = reached.last;
-              legal = reached.legal;
-              same = between (readers (blocks_of s)) (k.keeper.volumes done.n) _ (volume_at area reached.last) is reached.same;
+            keepable = record {
+              consistent = same_consistent (readers (blocks_of s)) (meaning.volume_of s (page_of new)) (volume_at area reached.last) same is.sound reached.consistent;
+              files = done.files txs new committed redone whole long;
+              past = done.past txs new committed redone whole long;
             };
+            reached = record { last = reached.last; legal = reached.legal; same = same; consistent = reached.consistent };
           });
     }
+
+pub again_law : AgainLaw
+again_law s page start list durable old clean accepted left txs new committed redone whole long bytes = record {
+  superblock = redone.superblock ∙ ap (λ (state : _). record s { state = state }) (sym clean);
+  accepted = subst (λ (n : ℕ). IsAccepted s n) (sym long) accepted;
+  pages = whole;
+  bytes = bytes;
+  keepable = (left.redone txs new committed redone whole long).keepable;
+}

@@ -1,11 +1,15 @@
 pub mod Same
 pub mod Quiet
 pub mod Steps
-pub mod Checked
+pub mod Keepable
 pub mod Begun
+pub mod Targets
 pub mod Crash
 pub mod Items
 pub mod Rested
 pub mod Splits
 pub mod Lost
 pub mod Called
+pub mod Stays
+pub mod Marked
+pub mod Failed

@@ -69,10 +69,10 @@ halted_law s page start list points fault old new k e =
     (same_files s page start list points old new k (ap (λ (p : Parts). p.files) e) (ap (λ (p : Parts). p.map) e) (ap (λ (p : Parts). p.inodes) e) (λ runs. ran fault old.halted (sym (ap (λ (p : Parts). p.halted) e) ∙ runs)))
 
 pub told_law : (tells crashes : Type 0) → ToldLaw tells crashes
-told_law tells crashes t c s page start list points n old new k serves told settles pages halted =
+told_law tells crashes t c s page start list points n old new k holds told settles pages halted =
     let is = told true true (λ _. t) (λ _. c) k.keeper.both.volume k.kept.rests.stands in
     quiet s page start list points old new k (Tells n ∷ drops is.0) (λ bad. absurd (false≢true (sym (drops_take_none is.0) ∙ bad))) (tt, drops_quiet is.0) is.1
-    (settled_law (meaning.volume_of s page).area old new serves.holds.freed settles (record { files = pages.files; view = λ _. pages.view t }))
+    (settled_law (meaning.volume_of s page).area old new holds.freed settles (record { files = pages.files; view = λ _. pages.view t }))
     (record { files = pages.files; agsize = agsize settles.map; inodes = settles.inodes; halted = λ runs. sym halted ∙ runs })
   where
     agsize : KeepsMap old new ⊎ ((to : ℕ) × SettlesTo to old new) → new.map.agsize ≡ old.map.agsize

@@ -1,11 +1,16 @@
 -- Pages that go home, syncs and syncpoints of a volume that is kept.
 use Rattle.std.specs.Bool.{⊤}
-use Rattle.std.proofs.Common.{◌≡◌, ◌∷◌, [], ◌++◌, ℕ, true, List, length, refl, sym, ap, subst, ◌∙◌, arith}
+use Rattle.std.proofs.Common.{◌≡◌, ◌∷◌, [], ◌++◌, ℕ, true, List, length, map, refl, sym, ap, subst, ◌∙◌, arith}
+use Rattle.jfs_disk.specs.Crash.{DiskState, last_of, settled as settled_state}
+use Rattle.jfs_disk.specs.Moment.{IsResting}
 use Rattle.jfs_super.specs.declared.fields.Super.{Super}
 use Rattle.jfs_logpages.specs.Records.{log_text}
 use Rattle.jfs_records.specs.Entries.{Item, entry, point, log_records}
 use Rattle.jfs_records.proofs.ReadBack.{length-items}
-use Rattle.jfs_legal.specs.served.specs.halves.specs.Parts.{Parts}
+use Rattle.jfs_legal.specs.served.specs.crash_core.specs.Core.{Block}
+use Rattle.jfs_legal.specs.served.specs.crash_core.specs.Step.{synced as synced_block}
+use Rattle.jfs_legal.specs.served.specs.halves.specs.Half.{VolumeHalf, all_synced}
+use Rattle.jfs_legal.specs.served.specs.halves.specs.Parts.{Parts, StandsFor}
 use Rattle.jfs_legal.specs.served.specs.volume.specs.Settles.{HomesAlone}
 use Rattle.jfs_legal.specs.served.specs.shown.specs.meaning.specs.Image as meaning
 use Rattle.jfs_points_kept.proofs.Homes.{home_all_law, sync_law}
@@ -47,11 +52,21 @@ synced tells crashes t c s page start list points old new result k sync alone ha
     stepped s page start list points old k new (sync_law (mount_of s k.low) (meaning.volume_of s page).area old new k.keeper result k.kept
     (sync true true (λ _. t) (λ _. c) k.keeper.both.volume k.kept.rests.stands) (seen tells t old new alone) halts)
 
+-- a disk whose blocks were all synced
+synced_rest : (blocks : List Block) → map (λ (b : Block). b.pages) (map synced_block blocks) ≡ settled_state (map (λ (b : Block). b.pages) (map synced_block blocks))
+unfolding settled_state
+synced_rest [] = refl
+synced_rest (b ∷ bs) = ap (λ (state : DiskState). (synced_block b).pages ∷ state) (synced_rest bs)
+
+low_rests : (new : Parts) (half : VolumeHalf) → StandsFor true true new (all_synced half) → IsResting (last_of new.past)
+low_rests new half stands = subst IsResting (sym (stands.low refl refl)) (synced_rest half.blocks)
+
 pub settled : (tells crashes : Type 0) → laws.SettledLaw tells crashes
 settled tells crashes t c s page start list points old new k told clean blocks inodes runs sync alone halts =
-    let done = settled_law (mount_of s k.low) (meaning.volume_of s page).area old new k.keeper k.kept (sync true true (λ _. t) (λ _. c) k.keeper.both.volume k.kept.rests.stands) (seen tells t old new alone) halts
+    let moves = sync true true (λ _. t) (λ _. c) k.keeper.both.volume k.kept.rests.stands in
+    let done = settled_law (mount_of s k.low) (meaning.volume_of s page).area old new k.keeper k.kept moves (seen tells t old new alone) halts
     (all_told s page start list points old k told) clean blocks inodes runs in
-    record { since = stepped s page start list points old k new done.0; settled = done.1 }
+    record { since = stepped s page start list points old k new done.0; settled = done.1; rests = low_rests new k.keeper.both.volume moves.stands }
 
 pub pointed : (tells crashes : Type 0) → laws.PointLaw tells crashes
 pointed tells crashes t c s page start list points old new k empty made e =

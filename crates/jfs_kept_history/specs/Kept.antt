@@ -9,6 +9,7 @@ use Rattle.jfs_legal.specs.served.specs.halves.specs.Parts.{Parts}
 use Rattle.jfs_legal.specs.served.specs.Holds.{volume_at}
 use Rattle.jfs_legal.specs.served.specs.Legal.{Timed, IsLegal}
 use Rattle.jfs_legal.specs.served.specs.shown.specs.kinds.specs.Images.{IsSameVolume}
+use Rattle.jfs_legal.specs.served.specs.shown.specs.meaning.specs.Consistent.{IsConsistent}
 use Rattle.jfs_legal.specs.served.specs.shown.specs.meaning.specs.Image as meaning
 use Rattle.jfs_legal.specs.served.specs.shown.specs.meaning.specs.Readers.{readers}
 use Rattle.jfs_legal.specs.served.specs.shown.specs.objects.specs.Volume.{Volume}
@@ -39,11 +40,12 @@ timed_in list = map (λ (e : Lasting). e.timed) list
 
 -- ---- the volume after them
 
--- Some parts hold this volume after a legal history, by all that the log keeps safe: its sets, its objects, and who owns each block.
+-- Some parts hold this volume after a legal history, by all that the log keeps safe: its sets, its objects, and who owns each block. It is consistent.
 pub record Reaches (s : Super) (page : ℕ → List ℕ) (start : Parts) (es : List Timed) (v : Volume) : Type 0 where
   pub last : Parts
   pub legal : IsLegal (meaning.volume_of s page).area s.logpxd.len start es last
   pub same : IsSameVolume (readers (blocks_of s)) v (volume_at (meaning.volume_of s page).area last)
+  pub consistent : IsConsistent (readers (blocks_of s)) (volume_at (meaning.volume_of s page).area last)
 
 -- ---- all of it
 

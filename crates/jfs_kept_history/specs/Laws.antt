@@ -1,6 +1,8 @@
 -- A volume that is served goes on being kept, step by step, on a disk that tells its contents and what a crash may leave.
 use Rattle.std.specs.Prelude.{◌≡◌, ◌<◌, ◌+◌, ◌^◌, ◌++◌, ◌∷◌, [], ℕ, false, List, length, Option, OnOk, None, Result, Ok}
+use Rattle.jfs_disk.specs.Crash.{last_of}
 use Rattle.jfs_disk.specs.Image.{Image, page_of}
+use Rattle.jfs_disk.specs.Moment.{IsResting}
 use Rattle.jfs_disk.specs.declared.disk.Fault.{Fault}
 use Rattle.jfs_super.specs.declared.fields.Super.{Super}
 use Rattle.jfs_records.specs.Records.{Noted}
@@ -25,18 +27,18 @@ use Rattle.jfs_legal.specs.served.specs.volume.specs.Settles.{Settles, HomesAlon
 use Rattle.jfs_legal.specs.served.specs.volume.specs.Told.{IsTold}
 use Rattle.jfs_legal.specs.served.specs.volume.specs.pages.specs.Dirty.{dirty_of}
 use Rattle.jfs_legal.specs.served.specs.volume_calls.specs.Written.{KeepsPages}
-use Rattle.jfs_legal.specs.served.specs.Holds.{MayServe}
+use Rattle.jfs_legal.specs.served.specs.Holds.{HoldsTree}
 use Rattle.jfs_legal.specs.served.specs.shown.specs.meaning.specs.Image as meaning
 use Rattle.jfs_points_kept.specs.Kept.{IsSettledIn}
 use Rattle.jfs_mounted_held.specs.mounted_places.specs.Mounted.{mount_of}
-use Rattle.jfs_kept_history.specs.Checked.{IsCheckedImage}
+use Rattle.jfs_kept_history.specs.Keepable.{IsKeepableImage}
 use Rattle.jfs_kept_history.specs.Kept.{Lasting, timed_in, IsKeptSince}
 
 -- ---- the mount
 
--- A volume that was just mounted from an image on which a check finds nothing.
+-- A volume that was just mounted from a keepable image.
 abbrev pub BeginLaw : (tells crashes : Type 0) → Type 0
-BeginLaw tells crashes = tells → crashes → (s : Super) (old : Image) (p : Parts) (log : LogParts) → IsMountOf tells crashes s old p log → IsCheckedImage s old → IsKeptSince s (page_of old) p [] [] p
+BeginLaw tells crashes = tells → crashes → (s : Super) (old : Image) (p : Parts) (log : LogParts) → IsMountOf tells crashes s old p log → IsKeepableImage s old → IsKeptSince s (page_of old) p [] [] p
 
 -- ---- groups and acknowledgements
 
@@ -47,7 +49,7 @@ TakenLaw tells crashes = tells → crashes → (s : Super) (page : ℕ → List 
 
 -- the first n entries are acknowledged;
 abbrev pub ToldLaw : (tells crashes : Type 0) → Type 0
-ToldLaw tells crashes = tells → crashes → (s : Super) (page : ℕ → List ℕ) (start : Parts) (list : List Lasting) (points : List ℕ) (n : ℕ) (old new : Parts) → IsKeptSince s page start list points old → MayServe (meaning.volume_of s page).area s.logpxd.len old
+ToldLaw tells crashes = tells → crashes → (s : Super) (page : ℕ → List ℕ) (start : Parts) (list : List Lasting) (points : List ℕ) (n : ℕ) (old new : Parts) → IsKeptSince s page start list points old → HoldsTree (meaning.volume_of s page).area s.logpxd.len old
     → OfEachHalf tells crashes old (λ seen asked half. IsTold seen asked n old new half) → Settles old new → KeepsPages tells old new → new.halted ≡ old.halted → IsKeptSince s page start list points new
 
 -- the volume halts for the log's fault;
@@ -61,10 +63,11 @@ HandedLaw tells crashes = tells → crashes → (s : Super) (page : ℕ → List
 
 -- ---- syncpoints
 
--- All entries are acknowledged, and no page waits to go home or to be synced.
+-- All entries are acknowledged, no page waits to go home or to be synced, and nothing of its part of the disk is pending.
 pub record IsSettledSince (s : Super) (page : ℕ → List ℕ) (start : Parts) (list : List Lasting) (points : List ℕ) (p : Parts) : Type 0 where
   pub since : IsKeptSince s page start list points p
   pub settled : IsSettledIn (mount_of s since.low) since.keeper
+  pub rests : IsResting (last_of p.past)
 
 abbrev pub HomeAllLaw : (tells crashes : Type 0) → Type 0
 HomeAllLaw tells crashes = tells → crashes → (s : Super) (page : ℕ → List ℕ) (start : Parts) (list : List Lasting) (points : List ℕ) (old new : Parts) (result : Result (Unit {0}) Fault) → IsKeptSince s page start list points old → old.told ≡ old.appended

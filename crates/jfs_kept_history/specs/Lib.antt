@@ -1,9 +1,10 @@
 -- what the laws say
-pub mod Checked
+pub mod Keepable
 pub mod Kept
 pub mod Laws
 pub mod Crash
 pub mod Rested
+pub mod Failed
 -- libraries below, passed on
 pub use Rattle.jfs_points_kept as points_kept
 pub use Rattle.jfs_crashes_redone as crashes_redone

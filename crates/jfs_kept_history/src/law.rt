@@ -1,20 +1,21 @@
 //! A served history whose volume is kept for a redo, on a disk that tells its contents and what a crash may leave.
 
 ghost use Rattle.jfs_kept_history.specs.Laws.{BeginLaw, TakenLaw, ToldLaw, HaltedLaw, HandedLaw, HomeAllLaw, HomeMapsLaw, SyncLaw, SettledLaw, PointLaw, KnowLaw, CallLaw};
-ghost use Rattle.jfs_kept_history.specs.Checked.{CheckedLaw, ConsistentLaw};
-ghost use Rattle.jfs_kept_history.specs.Crash.{CrashLaw};
+ghost use Rattle.jfs_kept_history.specs.Keepable.{CheckedLaw, MountLaw};
+ghost use Rattle.jfs_kept_history.specs.Crash.{CrashLaw, AgainLaw};
+ghost use Rattle.jfs_kept_history.specs.Failed.{FailedLaw};
 ghost use Rattle.jfs_kept_history.specs.Rested.{ItemsLaw, RestedLaw, LostLaw};
 
 use jfs_disk::Disk;
 
-/// An image on which a check finds nothing is consistent,
-pub fn checked_images_are_consistent()
-    ensures { ConsistentLaw }
+/// An image on which a check finds nothing is keepable.
+pub fn checked_images_are_keepable()
+    ensures { CheckedLaw }
 {}
 
-/// and a mount of it leaves whole pages.
+/// A mount of a keepable image leaves whole pages.
 pub fn mounts_leave_whole_pages<D: Disk>()
-    ensures { CheckedLaw D.tells D.tells_crashes }
+    ensures { MountLaw D.tells D.tells_crashes }
 {}
 
 /// A volume that was just mounted from such an image is kept.
@@ -82,6 +83,11 @@ pub fn crashes_are_redone_to_the_history()
     ensures { CrashLaw }
 {}
 
+/// What redo makes of it is a keepable image again.
+pub fn redone_images_are_keepable()
+    ensures { AgainLaw }
+{}
+
 /// In the log of what keeps it stands what groups have taken, and nothing else since the mount.
 pub fn logs_have_what_was_taken()
     ensures { ItemsLaw }
@@ -95,4 +101,9 @@ pub fn rested_disks_are_redone_to_the_history<D: Disk>()
 /// And where it holds a front of its last group behind what was stable before, it is redone to the history, with all durable entries.
 pub fn lost_groups_are_redone_to_the_history<D: Disk>()
     ensures { LostLaw D.tells D.tells_crashes }
+{}
+
+/// Where a mount of a keepable image failed by a fault of the disk, a crash leaves the image's tree, or a disk that is redone to it.
+pub fn failed_mounts_leave_volumes()
+    ensures { FailedLaw }
 {}

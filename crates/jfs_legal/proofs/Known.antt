@@ -1,7 +1,7 @@
 -- What is known of the tree that a volume holds.
 use Rattle.jfs_served.proofs.Between.{asked_law, joined_law, home_law, acknowledged_law, pointed_law, handed_out_law}
 use Rattle.jfs_served.proofs.Changed.{changed_law}
-use Rattle.jfs_served.proofs.Given.{given_back_law}
+use Rattle.jfs_served.proofs.Given.{given_back_law, unfinished_law}
 use Rattle.jfs_served.proofs.History.{history_law}
 use Rattle.jfs_served.proofs.Keeps.{again_law}
 use Rattle.jfs_served.proofs.Mounted.{mounted_law}
@@ -14,6 +14,7 @@ pub laws : Laws
 laws = record {
   changed = changed_law;
   given_back = given_back_law;
+  unfinished = unfinished_law;
   unchanged = unchanged_law;
   asked = asked_law;
   joined = joined_law;

@@ -1,3 +1,4 @@
 pub mod Replying
 pub mod Known
 pub mod Going
+pub mod Over

@@ -18,7 +18,7 @@ use Rattle.jfs_served.specs.plain.specs.declared.refusal.Refusal.TheVariants.{Re
 use Rattle.jfs_served.specs.plain.specs.declared.reply.Reply.{Reply}
 use Rattle.jfs_served.specs.plain.specs.declared.reply.Reply.TheVariants.{Done, Refused}
 use Rattle.jfs_served.specs.volume.specs.Asked.{IsAskedOf}
-use Rattle.jfs_served.specs.volume.specs.Join.{entry_with}
+use Rattle.jfs_served.specs.volume.specs.Join.{entry_with, with_entry}
 use Rattle.jfs_served.specs.volume.specs.Called.{StopsReading, StopsPutting}
 use Rattle.jfs_served.specs.volume.specs.Settles.{Settles}
 use Rattle.jfs_served.specs.volume_calls.specs.Written.{KeepsPages}
@@ -26,18 +26,18 @@ use Rattle.jfs_served.specs.halves.specs.Parts.{Parts}
 use Rattle.jfs_served.specs.volume.specs.pages.specs.Device.{IsFault, HasFault}
 use Rattle.jfs_served.specs.plain.specs.declared.call.Entry.{Entry}
 use Rattle.jfs_served.specs.call.specs.Answer.{held}
-use Rattle.jfs_served.specs.call.specs.Changed.{IsChangedBy, IsFailedBy}
+use Rattle.jfs_served.specs.call.specs.Changed.{IsChangedBy, IsFailedBy, FailsUnsaid}
 use Rattle.jfs_served.specs.call.specs.Needs.{AnswersOf}
 use Rattle.jfs_served.specs.call.specs.Replied.{IsReplied, TellsSame, is_kept_back}
 use Rattle.jfs_served.specs.call.specs.Does.{Syncs, TellsSynced, ChangesWhere, EndsBy, DoesWhere, Does}
 use Rattle.jfs_served.specs.call.specs.DoesLent.{Both, Asking, End, DoesAlone, NeedsThen, GivesUp, AfterCommit, CommitsThen, AfterPoint, PointsThen, DoesLast, DoesPointed, DoesAgain}
 use Rattle.jfs_served.specs.call.specs.declared.outcome.Outcome.{Outcome}
 use Rattle.jfs_served.specs.call.specs.declared.outcome.Outcome.TheVariants.{Replied, NeedsLog, NoMemory}
-use Rattle.jfs_served.specs.Holds.{MayServe, StaysServing}
+use Rattle.jfs_served.specs.Holds.{HoldsTree, MayServe, KeepsTree, StaysServing}
 use Rattle.jfs_served.specs.Step.{IsAsked, IsAnswer, TakesStep}
 use Rattle.jfs_served.specs.Legal.{Timed, HasServed}
 use Rattle.jfs_served.specs.Torn.{TornLaw}
-use Rattle.jfs_served.specs.Laws.{ChangedLaw, GivenBackLaw, UnchangedLaw, AskedLaw, JoinedLaw, RefusedLaw, AcknowledgedLaw, PointedLaw, HandedOutLaw, HomeLaw, AgainLaw, MountedLaw, UnmountedLaw, HistoryLaw}
+use Rattle.jfs_served.specs.Laws.{ChangedLaw, GivenBackLaw, UnfinishedLaw, UnchangedLaw, AskedLaw, JoinedLaw, RefusedLaw, AcknowledgedLaw, PointedLaw, HandedOutLaw, HomeLaw, AgainLaw, MountedLaw, UnmountedLaw, HistoryLaw}
 use Rattle.jfs_served.proofs.Told.{told_asked, told_joins, told_pages, told_shown, told_home}
 use Rattle.jfs_legal.specs.History.{at}
 
@@ -45,6 +45,7 @@ use Rattle.jfs_legal.specs.History.{at}
 pub record Laws : Type 0 where
   pub changed : ChangedLaw
   pub given_back : GivenBackLaw
+  pub unfinished : UnfinishedLaw
   pub unchanged : UnchangedLaw
   pub asked : AskedLaw
   pub joined : JoinedLaw
@@ -59,11 +60,16 @@ pub record Laws : Type 0 where
   pub unmounted : UnmountedLaw
   pub history : HistoryLaw
 
--- What a call leaves of a volume that could serve it: with its entry the history is legal and the next call may come; without one, where memory lacked, nothing is said.
+-- What a call leaves of a volume that could serve it: with its entry the history is legal and the next call may come; where memory lacked, nothing is said here.
 abbrev pub Left : (ℕ → ℕ) → ℕ → Parts → List Timed → Asking → Parts → Outcome → Type 0
 Left area log_pages start es a new (Replied reply number waits) = HasServed area log_pages start (es ++ at a.now (entry_with a.caller.client a.caller.line a.request reply) ∷ []) new
 Left area log_pages start es a new NeedsLog = HasServed area log_pages start es new
 Left area log_pages start es a new NoMemory = Unit {0}
+
+-- What a call leaves without a reply, where memory lacked: the volume is still a consistent one, with its tree while it runs.
+pub record Lacks (area : ℕ → ℕ) (log_pages : ℕ) (old new : Parts) : Type 0 where
+  pub holds : HoldsTree area log_pages new
+  pub keeps : new.halted ≡ None → KeepsTree area log_pages old new
 
 -- ---- tests
 
@@ -91,10 +97,14 @@ module _ (laws : Laws) (tells crashes : Type 0) (told : tells) (area : ℕ → �
   abbrev pub Ends : Parts → Parts → Outcome → Type 0
   Ends old new (Replied reply number waits) = TakesStep area log_pages a.request.call a.now reply old new
   Ends old new NeedsLog = StaysServing area log_pages old new
-  Ends old new NoMemory = Unit {0}
+  Ends old new NoMemory = Lacks area log_pages old new
 
-  ends_none : (old new : Parts) (outcome : Outcome) → outcome ≡ NoMemory → Ends old new outcome
-  ends_none old new outcome e = subst (Ends old new) (sym e) tt
+  -- it has what another volume has that keeps the tree
+  lacks : (old mid new : Parts) → KeepsTree area log_pages old mid → new ≡ mid → Lacks area log_pages old new
+  lacks old mid new keeps same = subst (Lacks area log_pages old) (sym same) (record { holds = keeps.holds; keeps = λ runs. keeps })
+
+  ends_none : (old mid new : Parts) (outcome : Outcome) → KeepsTree area log_pages old mid → new ≡ mid → outcome ≡ NoMemory → Ends old new outcome
+  ends_none old mid new outcome keeps same e = subst (Ends old new) (sym e) (lacks old mid new keeps same)
 
   -- ---- replies that join alone
 
@@ -107,7 +117,7 @@ module _ (laws : Laws) (tells crashes : Type 0) (told : tells) (area : ℕ → �
       subst (λ (given_reply : Reply). TakesStep area log_pages a.request.call a.now given_reply old new) (sym r.reply_is)
       (step new (ap (λ (p : Parts). p.faults) r.parts) (laws.again area log_pages old mid new stays joined))
   replied given wait old mid new NeedsLog stays step r = absurd r
-  replied given wait old mid new NoMemory stays step r = tt
+  replied given wait old mid new NoMemory stays step r = lacks old mid new stays.keeps r
 
   itself : (old : Parts) → MayServe area log_pages old → StaysServing area log_pages old old
   itself old may = laws.home area log_pages old old may.holds (record { parts = refl; view = λ t. refl })
@@ -154,6 +164,9 @@ module _ (laws : Laws) (tells crashes : Type 0) (told : tells) (area : ℕ → �
     was = told_asked tells crashes told old mid asked
 
     module _ (tx : List Edit) (put : List DataPage) (is : IsAnswer a.request a.now old mid (Changed tx put)) where
+      cause_of : (fault : Fault) (new : Parts) → IsFault mid.faults new.faults fault → IsFault old.faults new.faults fault
+      cause_of fault new cause = subst (λ (n : ℕ). IsFault n new.faults fault) (ap (λ (low : Fault). low.count) is.fault) cause
+
       -- a page couldn't be read; or a write of its data failed
       failed : (fault : Fault) (new : Parts) (reply : Reply) (number : ℕ) (waits : Bool) (f : IsFailedBy tells crashes a.caller a.request tx put fault mid new reply number waits)
           → StopsReading tells crashes mid f.mid ⊎ StopsPutting tells crashes tx put fault mid f.mid → TakesStep area log_pages a.request.call a.now reply old new
@@ -163,7 +176,7 @@ module _ (laws : Laws) (tells crashes : Type 0) (told : tells) (area : ℕ → �
           entry = entry_with a.caller.client a.caller.line a.request (Refused (IoFault fault))
 
           cause : IsFault old.faults f.mid.faults fault
-          cause = subst (λ (n : ℕ). IsFault n f.mid.faults fault) (ap (λ (low : Fault). low.count) is.fault) f.fails.is_fault
+          cause = cause_of fault f.mid f.fails.is_fault
 
           step : StopsReading tells crashes mid f.mid ⊎ StopsPutting tells crashes tx put fault mid f.mid → TakesStep area log_pages a.request.call a.now (Refused (IoFault fault)) old new
           step (inl reads) =
@@ -173,6 +186,21 @@ module _ (laws : Laws) (tells crashes : Type 0) (told : tells) (area : ℕ → �
               (inl (subst (λ (n : ℕ). IsFault old.faults n fault) (sym (ap (λ (p : Parts). p.faults) f.parts)) cause))
           step (inr puts) = laws.torn area log_pages a.request a.now tx put fault entry old mid f.mid new may was is f.given_back (puts.view told) cause f.parts
 
+      -- what was reserved stays reserved
+      reserved : KeepsTree area log_pages old mid
+      reserved = laws.unfinished area log_pages a.request a.now tx put old mid mid may was is (record { joins_not = record { parts = refl }; map = inr (record { states = refl; agsize = refl }) }) refl
+
+      -- no memory for the refusal: what its entry would leave, without that entry
+      unsaid : (new : Parts) (f : FailsUnsaid tells crashes tx put mid new) → StopsReading tells crashes mid new ⊎ StopsPutting tells crashes tx put f.fault mid new → Lacks area log_pages old new
+      unsaid new f (inl reads) = lacks old new new (laws.given_back area log_pages a.request a.now tx put old mid new may was is f.given_back (reads.view told)).keeps refl
+      unsaid new f (inr puts) =
+          let entry = entry_with a.caller.client a.caller.line a.request (Refused (IoFault f.fault)) in
+          let h = (laws.torn area log_pages a.request a.now tx put f.fault entry old mid new (with_entry entry new) may was is f.given_back (puts.view told) (cause_of f.fault new f.fails.is_fault) refl).serves.holds in
+          record {
+            holds = record { consistent = h.consistent; limit = h.limit; within = h.within; places = h.places; few = h.few; bits = h.bits; freed = h.freed; areas = h.areas };
+            keeps = λ runs. absurd (none-some f.fault (sym runs ∙ puts.halted));
+          }
+
       changed : (new : Parts) (outcome : Outcome) → IsChangedBy tells crashes a.caller a.request tx put mid new outcome → Ends old new outcome
       changed new (Replied reply number waits) (inl d) =
           subst (λ (given : Reply). TakesStep area log_pages a.request.call a.now given old new) (sym d.reply_is)
@@ -180,25 +208,31 @@ module _ (laws : Laws) (tells crashes : Type 0) (told : tells) (area : ℕ → �
           (told_joins tells crashes told (entry_with a.caller.client a.caller.line a.request Done) tx put number mid new d.joins.joins))
       changed new (Replied reply number waits) (inr (fault, f)) = failed fault new reply number waits f f.fails.fails
       changed new NeedsLog (given, goes, lacks) = laws.given_back area log_pages a.request a.now tx put old mid new may was is given (goes.view told)
-      changed new NoMemory c = tt
+      changed new NoMemory (inl (given, goes)) = lacks old new new (laws.unfinished area log_pages a.request a.now tx put old mid new may was is given (goes.view told)) refl
+      changed new NoMemory (inr (inl same)) = lacks old mid new reserved same
+      changed new NoMemory (inr (inr f)) = unsaid new f f.fails.fails
 
       changes : (b : Bool) (new : Parts) (outcome : Outcome) → ChangesWhere b tells crashes a.caller a.request tx put mid new outcome → Ends old new outcome
       changes true new outcome c = changed new outcome c
-      changes false new outcome (none, same) = ends_none old new outcome none
+      changes false new outcome (none, same) = ends_none old mid new outcome reserved same none
+
+    -- nothing of its map was reserved
+    stays : (same : mid.map ≡ old.map) → StaysServing area log_pages old mid
+    stays same = laws.asked area log_pages old mid may.holds was same
 
     told_same : (reply : Reply) (new : Parts) (outcome : Outcome) → IsAnswer a.request a.now old mid (Unchanged reply) → TellsSame a.caller a.request reply mid new outcome → Ends old new outcome
     told_same reply new (Replied given number waits) is (inl (kept, r)) =
         subst (λ (given_reply : Reply). TakesStep area log_pages a.request.call a.now given_reply old new) (sym r.reply_is)
         (laws.unchanged area log_pages a.request a.now reply (entry_with a.caller.client a.caller.line a.request reply) old mid new may was is (told_reply reply kept) r.parts)
     told_same reply new NeedsLog is (inl (kept, r)) = absurd r
-    told_same reply new NoMemory is (inl (kept, r)) = tt
-    told_same reply new outcome is (inr (none, same)) = ends_none old new outcome none
+    told_same reply new NoMemory is (inl (kept, r)) = lacks old mid new (stays (ap (λ maps. maps.blocks) is.maps)).keeps r
+    told_same reply new outcome is (inr (none, same)) = ends_none old mid new outcome (stays (ap (λ maps. maps.blocks) is.maps)).keeps same none
 
     by_answer : (answer : FileOutcome) (new : Parts) (outcome : Outcome) → IsAnswer a.request a.now old mid answer → EndsBy tells crashes a.caller a.request answer mid new outcome → Ends old new outcome
     by_answer (Changed tx put) new outcome is e = changes tx put is (is_changing a.request.call) new outcome e
     by_answer (Unchanged reply) new outcome is e = told_same reply new outcome is e
     by_answer Awaits new outcome is (needs, same) =
-        subst (Ends old new) (sym needs) (subst (λ (p : Parts). StaysServing area log_pages old p) (sym same) (laws.asked area log_pages old mid may.holds was (ap (λ maps. maps.blocks) is.maps)))
+        subst (Ends old new) (sym needs) (subst (λ (p : Parts). StaysServing area log_pages old p) (sym same) (stays (ap (λ maps. maps.blocks) is.maps)))
 
   -- ---- any call
 

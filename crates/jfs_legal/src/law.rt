@@ -1,6 +1,6 @@
 //! What is true of the entries of a mounted volume, of a disk that tells its contents.
 
-ghost use Rattle.jfs_legal.specs.Laws.{BeginLaw, LegalLaw, CallLaw, LentLaw, SettledLaw, PointedLaw, HandedLaw};
+ghost use Rattle.jfs_legal.specs.Laws.{BeginLaw, LegalLaw, CallLaw, LentLaw, SettledLaw, PointedLaw, HandedLaw, OverLaw, LackedLaw, OverSettledLaw, OverPointedLaw, OverHandedLaw};
 
 use jfs_disk::Disk;
 
@@ -37,4 +37,29 @@ pub fn pages_at_home_leave_it_legal<D: Disk>()
 /// And so do entries that are handed out.
 pub fn entries_handed_out_leave_it_legal()
     ensures { HandedLaw }
+{}
+
+/// A history that goes on may end there.
+pub fn histories_that_go_on_may_end()
+    ensures { OverLaw }
+{}
+
+/// Where memory lacks for a call it is over: the volume is still consistent, and has the tree of the last entry while it runs.
+pub fn calls_without_memory_end_it<D: Disk>()
+    ensures { LackedLaw D.tells D.tells_crashes }
+{}
+
+/// A commit leaves one that is over as it is,
+pub fn settled_volumes_leave_it_over<D: Disk>()
+    ensures { OverSettledLaw D.tells }
+{}
+
+/// so do pages that go home,
+pub fn pages_at_home_leave_it_over<D: Disk>()
+    ensures { OverPointedLaw D.tells }
+{}
+
+/// and entries that are handed out.
+pub fn entries_handed_out_leave_it_over()
+    ensures { OverHandedLaw }
 {}

@@ -4,8 +4,10 @@
 mod law;
 
 pub use law::{
-    calls_go_on_legally, calls_lent_the_log_go_on_legally, entries_handed_out_leave_it_legal,
-    histories_that_go_on_are_legal, pages_at_home_leave_it_legal, settled_volumes_leave_it_legal,
+    calls_go_on_legally, calls_lent_the_log_go_on_legally, calls_without_memory_end_it,
+    entries_handed_out_leave_it_legal, entries_handed_out_leave_it_over,
+    histories_that_go_on_are_legal, histories_that_go_on_may_end, pages_at_home_leave_it_legal,
+    pages_at_home_leave_it_over, settled_volumes_leave_it_legal, settled_volumes_leave_it_over,
     volumes_that_serve_begin_legally,
 };
 

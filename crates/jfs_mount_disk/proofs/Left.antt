@@ -8,7 +8,8 @@ use Rattle.jfs_disk.proofs.Flow.{crash-resting, length-seen_of}
 use Rattle.jfs_disk.proofs.Outcomes.{tears_nothing}
 use Rattle.jfs_super.specs.declared.fields.Super.{Super}
 use Rattle.jfs_logpages.specs.Fresh.{IsFreshLog}
-use Rattle.jfs_mount_disk.specs.Begun.{marked_page, LeavesLow, LeavesLog}
+use Rattle.jfs_disk.specs.declared.disk.Fault.{Fault}
+use Rattle.jfs_mount_disk.specs.Begun.{marked_page, LeavesLow, LeavesLog, LeavesUntouched, IsLowCause}
 use Rattle.jfs_mount_disk.specs.declared.ready.BeginError.{BeginError}
 use Rattle.jfs_mount_disk.specs.declared.ready.BeginError.TheVariants as errors
 
@@ -69,3 +70,8 @@ module _ (at : ℕ) (low : Image) (state : DiskState) (low_past high_past : List
 pub log_left : (s : Super) (old left : Image) (why : BeginError) → IsFreshLog s.logpxd.len s.uuid (drop s.logpxd.addr left) → LeavesLog s old why left
 log_left s old left (errors.Disk fault) fresh = λ _. fresh
 log_left s old left errors.Memory fresh = inr fresh
+
+-- a fault of the low part is none of the log's
+pub low_not_high : (s : Super) (old left : Image) (before now : ℕ) (why : BeginError) → IsLowCause before now why → LeavesUntouched s old why left
+low_not_high s old left before now (errors.Disk fault) cause = λ high. absurd (cc (high, ap (λ (f : Fault). f.part) cause.1))
+low_not_high s old left before now errors.Memory cause = tt

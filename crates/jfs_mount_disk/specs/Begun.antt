@@ -90,3 +90,8 @@ LeavesLow s old left = IsPartlyMarked s (take s.logpxd.addr old) (take s.logpxd.
 abbrev pub LeavesLog : Super → Image → BeginError → Image → Type 0
 LeavesLog s old (errors.Disk fault) left = fault.part ≡ Low → IsFreshLog s.logpxd.len s.uuid (drop s.logpxd.addr left)
 LeavesLog s old errors.Memory left = (drop s.logpxd.addr left ≡ drop s.logpxd.addr old) ⊎ IsFreshLog s.logpxd.len s.uuid (drop s.logpxd.addr left)
+
+-- Where the log's part failed, the pages before the log are as they were: they are written after it.
+abbrev pub LeavesUntouched : Super → Image → BeginError → Image → Type 0
+LeavesUntouched s old (errors.Disk fault) left = fault.part ≡ High → take s.logpxd.addr left ≡ take s.logpxd.addr old
+LeavesUntouched s old errors.Memory left = Unit {0}

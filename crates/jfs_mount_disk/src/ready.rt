@@ -11,7 +11,7 @@ ghost use Rattle.jfs_logpages.specs.Ring.{fresh_text, fresh_ends};
 ghost use Rattle.jfs_super.specs.Rules.{IsAccepted};
 ghost use Rattle.jfs_super.specs.Super.{super_of, FitsSuper};
 ghost use Rattle.jfs_super.specs.declared.fields.TheConstants.VolumeState.{MOUNTED};
-ghost use Rattle.jfs_mount_disk.specs.Begun.{IsMarked, IsPartlyMarked, MarksOrLeaves, LeavesRest, LeavesLow, LeavesLog, IsLowCause, IsCause, HasParts, low_error};
+ghost use Rattle.jfs_mount_disk.specs.Begun.{IsMarked, IsPartlyMarked, MarksOrLeaves, LeavesRest, LeavesLow, LeavesLog, LeavesUntouched, IsLowCause, IsCause, HasParts, low_error};
 
 use jfs_disk::{Disk, DiskError, Fault, Page, Part};
 use jfs_logpages::LogSide;
@@ -67,6 +67,7 @@ pub fn begin<D: Disk>(disk: D, s: &Super) -> Result<Begun<D>, NotBegun<D>>
     // If nothing was pending, this is what a crash then leaves of the disk. Of a log whose own part failed it isn't said.
     ensures left_low { IfErr result (λ not. D.tells → D.tells_crashes → IsResting (last_of (D.past disk)) → Leaves (LeavesLow s.now (D.image disk)) (last_of (D.past not.disk))) }
     ensures left_log { IfErr result (λ not. D.tells → D.tells_crashes → IsResting (last_of (D.past disk)) → Leaves (LeavesLog s.now (D.image disk) not.why) (last_of (D.past not.disk))) }
+    ensures left_high { IfErr result (λ not. D.tells → D.tells_crashes → IsResting (last_of (D.past disk)) → Leaves (LeavesUntouched s.now (D.image disk) not.why) (last_of (D.past not.disk))) }
 {
     // so that its numbers are known to fit
     let _pages = disk.pages();

@@ -15,7 +15,9 @@ use Rattle.jfs_logfmt.specs.Written.{text_of}
 use Rattle.jfs_logpages.specs.Fresh.{first_record}
 use Rattle.jfs_logpages.specs.Group.{Holds, position_of}
 use Rattle.jfs_logpages.specs.Ring.{fresh_text, fresh_ends}
-use Rattle.jfs_mount_disk.specs.Begun.{marked_page, IsMarked, HasParts}
+use Rattle.jfs_mount_disk.specs.Begun.{marked_page, IsMarked, HasParts, LeavesUntouched as OfBegin}
+use Rattle.jfs_mount_disk.specs.declared.ready.BeginError.{BeginError}
+use Rattle.jfs_mount_disk.specs.declared.ready.BeginError.TheVariants as begins
 use Rattle.jfs_volume.specs.halves.specs.Laws.{fresh_halves}
 use Rattle.jfs_volume.specs.halves.specs.Log.{LogParts, LogStandsFor}
 use Rattle.jfs_volume.proofs.Stand.{image-at, length-image}
@@ -34,7 +36,7 @@ use Rattle.jfs_mount_maps.specs.declared.found.MapsError.TheVariants as found
 use Rattle.jfs_logpages.specs.declared.log_side.LogSide.{LogSide}
 use Rattle.jfs_mount_disk.specs.declared.ready.Begun.{Begun}
 use Rattle.jfs_mounted.specs.Laws.{SameButSuper, KeepsVolume}
-use Rattle.jfs_mounted.specs.Mount.{log_parts, refusal_of, LeavesLog}
+use Rattle.jfs_mounted.specs.Mount.{log_parts, refusal_of, failure_of, LeavesLog, LeavesUntouched, WasCut}
 use Rattle.jfs_mounted.proofs.Marked.{marked_law}
 
 -- a cache that has read nothing shows the pages of its disk
@@ -94,6 +96,22 @@ pub before_left : (s : Super) (old left : Image) (before now : ℕ) (why : MapsE
 before_left s old left before now (found.BadImage bad) carries e = e
 before_left s old left before now (found.Read fault) carries e = (λ _. e, λ low. absurd (cc (low, ap (λ (f : Fault). f.part) carries.1)))
 before_left s old left before now found.Memory carries e = inl (ap (λ (im : Image). drop s.logpxd.addr im) e)
+
+-- Before the cut a fault is the whole disk's.
+pub before_untouched : (s : Super) (old left : Image) (before now : ℕ) (why : MapsError) → CarriesMaps (record { part = Whole; count = before }) (record { part = Whole; count = now }) (Err why) → LeavesUntouched s old (refusal_of why) left
+before_untouched s old left before now (found.BadImage bad) carries = tt
+before_untouched s old left before now (found.Read fault) carries = λ high. absurd (cc (high, ap (λ (f : Fault). f.part) carries.1))
+before_untouched s old left before now found.Memory carries = tt
+
+pub before_cut : (before now : ℕ) (why : MapsError) → CarriesMaps (record { part = Whole; count = before }) (record { part = Whole; count = now }) (Err why) → WasCut (refusal_of why) → ⊥
+before_cut before now (found.BadImage bad) carries cut = cut
+before_cut before now (found.Read fault) carries cut = cut (ap (λ (f : Fault). f.part) carries.1)
+before_cut before now found.Memory carries cut = cut
+
+-- what is said of a disk that isn't ready is said of the mount
+pub untouched_of : (s : Super) (old left : Image) (why : BeginError) → OfBegin s old why left → LeavesUntouched s old (failure_of why) left
+untouched_of s old left (begins.Disk fault) h = h
+untouched_of s old left begins.Memory h = tt
 
 -- the pages of the maps' files lie before the log, where they lie within the blocks
 pub files_of_low : (maps : FoundMaps) (layout : Geometry) (low : ℕ) → AreAtRest layout maps → layout.blocks ≤ low → AreFilesOf low (pages_of (length maps.blocks.states)) maps.inodes.iags maps.files

@@ -1,10 +1,10 @@
 -- A volume that was just mounted, and a mount that failed.
-use Rattle.std.specs.Prelude.{◌≡◌, ◌⊎◌, ◌-◌, ℕ, Bool, drop, Some}
+use Rattle.std.specs.Prelude.{◌≡◌, ◌⊎◌, ◌-◌, ℕ, Bool, take, drop, Some}
 use Rattle.jfs_bits.specs.Count.{Rose}
 use Rattle.jfs_disk.specs.Image.{Image, page_of}
 use Rattle.jfs_disk.specs.declared.disk.Disk.{Ghosts}
 use Rattle.jfs_disk.specs.declared.disk.Fault.{Fault}
-use Rattle.jfs_disk.specs.declared.disk.Part.TheVariants.{Whole, Low}
+use Rattle.jfs_disk.specs.declared.disk.Part.TheVariants.{Whole, Low, High}
 use Rattle.jfs_super.specs.Super.{super_of}
 use Rattle.jfs_super.specs.Geometry.{geometry_of}
 use Rattle.jfs_super.specs.declared.fields.Super.{Super}
@@ -97,3 +97,21 @@ abbrev pub LeavesLog : Super → Image → MountError → Image → Type 0
 LeavesLog s old (BadImage bad) left = left ≡ old
 LeavesLog s old (Disk fault) left = (fault.part ≡ Whole → left ≡ old) × (fault.part ≡ Low → IsFreshLog s.logpxd.len s.uuid (drop s.logpxd.addr left))
 LeavesLog s old Memory left = (drop s.logpxd.addr left ≡ drop s.logpxd.addr old) ⊎ IsFreshLog s.logpxd.len s.uuid (drop s.logpxd.addr left)
+
+-- Where the log's part failed, nothing of the pages before it was written.
+abbrev pub LeavesUntouched : Super → Image → MountError → Image → Type 0
+LeavesUntouched s old (BadImage bad) left = Unit {0}
+LeavesUntouched s old (Disk fault) left = fault.part ≡ High → take s.logpxd.addr left ≡ take s.logpxd.addr old
+LeavesUntouched s old Memory left = Unit {0}
+
+-- a part of the disk failed: it had been cut
+abbrev pub WasCut : MountError → Type 0
+WasCut (BadImage bad) = ⊥
+WasCut (Disk fault) = fault.part ≡ Whole → ⊥
+WasCut Memory = ⊥
+
+-- No rule of a mount is broken, and these maps are those of the image, between calls.
+pub record FoundOn (s : Super) (old : Image) : Type 0 where
+  pub maps : FoundMaps
+  pub rest : AreAtRest (geometry_of s) maps
+  pub are : AreMapsOf (subject_of s (page_of old)) maps

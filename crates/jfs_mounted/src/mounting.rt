@@ -14,7 +14,7 @@ ghost use Rattle.jfs_logpages.specs.Group.{position_of};
 ghost use Rattle.jfs_logpages.specs.Fresh.{OthersStay, IsFreshLog, IsPartlyFresh};
 ghost use Rattle.jfs_mount_disk.specs.Begun.{IsPartlyMarked, LeavesRest, LeavesLow};
 ghost use Rattle.jfs_volume.specs.Start.{StandsFresh};
-ghost use Rattle.jfs_mounted.specs.Mount.{log_parts, IsMountOf, IsMountCause, IsRefusal, IsBeforeCut, LeavesLog, refusal_of, failure_of};
+ghost use Rattle.jfs_mounted.specs.Mount.{log_parts, IsMountOf, IsMountCause, IsRefusal, IsBeforeCut, LeavesLog, LeavesUntouched, WasCut, FoundOn, refusal_of, failure_of};
 
 use crate::mounted::{MountError, MountRefused, Mounted};
 use jfs_disk::Disk;
@@ -64,6 +64,9 @@ pub fn mount<D: Disk>(alloc: Global, disk: D, s: &Super) -> Result<Mounted<D>, M
     // If nothing was pending, this is what a crash then leaves of the disk. Of a log whose own part failed it isn't said.
     ensures left_low { IfErr result (λ not. D.tells → D.tells_crashes → IsResting (last_of (D.past disk)) → Leaves (LeavesLow s.now (D.image disk)) (last_of (D.past not.disk))) }
     ensures left_log { IfErr result (λ not. D.tells → D.tells_crashes → IsResting (last_of (D.past disk)) → Leaves (LeavesLog s.now (D.image disk) not.why) (last_of (D.past not.disk))) }
+    ensures left_high { IfErr result (λ not. D.tells → D.tells_crashes → IsResting (last_of (D.past disk)) → Leaves (LeavesUntouched s.now (D.image disk) not.why) (last_of (D.past not.disk))) }
+    // The disk is cut where no rule is broken and the maps were found.
+    ensures found { IfErr result (λ not. D.tells → WasCut not.why → FoundOn s.now (D.image disk)) }
 {
     let mut disk = disk;
     let ring = geometry(s).log.len - 2;

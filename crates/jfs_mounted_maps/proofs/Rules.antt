@@ -1,5 +1,5 @@
 -- The superblock's page alone is another one: no rule of the maps is broken by it, and the dmaps have the bits that they had.
-use Rattle.std.proofs.Common.{◌≡◌, ◌⊎◌, ◌≤◌, ◌<◌, ◌+◌, ◌*◌, ◌/◌, ◌%◌, ◌&&◌, ◌||◌, ◌==◌, not, nat_le, ℕ, suc, Bool, true, false, List, is_some, unwrap_or, None, refl, sym, ap, ◌∙◌, subst, inl, inr, arith}
+use Rattle.std.proofs.Common.{◌≡◌, ◌⊎◌, ◌≤◌, ◌<◌, ◌+◌, ◌*◌, ◌/◌, ◌%◌, ◌&&◌, ◌||◌, ◌==◌, not, nat_le, ℕ, suc, Bool, true, List, is_some, unwrap_or, None, sym, ap, ◌∙◌, subst, inl, inr, arith}
 use Rattle.std.specs.List.{range_with_len, prefix_len}
 use Rattle.std.proofs.Math.Path.{fun_ext}
 use Rattle.std.proofs.lemmas.Bool.{or_cases, and_parts, eqb-true}
@@ -50,6 +50,9 @@ module _ (s : Super) (old low : ℕ → List ℕ) (sound : IsSound (readers (blo
 
   files : SamePlaces r s.ait2 s.aim2 old low
   files = places r (blocks_of s) s.ait2 s.aim2 old low sound whole same
+
+  pub whole_files : HasWholeFiles r low
+  whole_files = files.whole whole
 
   block_page : (k : ℕ) → file_page r low 2 k ≡ file_page r old 2 k
   block_page k = map_page r (blocks_of s) s.ait2 s.aim2 old low sound whole same k

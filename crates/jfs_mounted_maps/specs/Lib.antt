@@ -1,2 +1,2 @@
--- what the law says
-pub mod Checked
+-- what the laws say
+pub mod Keepable

@@ -1,5 +1,5 @@
 -- A volume as a mount leaves it.
-use Rattle.std.proofs.Common.{◌≡◌, ◌<◌, ℕ, length, ap, sym, subst, arith}
+use Rattle.std.proofs.Common.{◌≡◌, ◌<◌, ℕ, ap, sym, subst, arith}
 use Rattle.std.specs.Prelude.{None}
 use Rattle.jfs_disk.specs.Image.{Image, page_of}
 use Rattle.jfs_logpages.specs.Fresh.{IsFreshLog}
@@ -13,7 +13,6 @@ use Rattle.jfs_server.specs.shared.specs.legal.specs.served.specs.halves.specs.L
 use Rattle.jfs_server.specs.shared.specs.legal.specs.served.specs.halves.specs.Parts.{Parts}
 use Rattle.jfs_server.specs.shared.specs.legal.specs.served.specs.volume_calls.specs.Together.{AreTogether}
 use Rattle.jfs_server.specs.shared.specs.legal.specs.served.specs.mounted.specs.Mount.{IsMountOf}
-use Rattle.jfs_run.specs.Mounted.{State, MayCall}
 
 pub has_superblock : (s : Super) (pages : ℕ) → IsAccepted s pages → 8 < pages
 has_superblock s pages accepted = let nine = accepted_pages s pages accepted in omega (arith, nine)
@@ -41,14 +40,6 @@ module _ (s : Super) (pages : ℕ) (accepted : IsAccepted s pages) where
   -- its superblock's page is one of the low part's
   pub superblock_below : (count : ℕ) → count ≡ s.logpxd.addr → 8 < count
   superblock_below count is = let layout = accepted_layout s pages accepted in let least = layout.least in let behind = layout.behind in omega (arith, is, least, behind)
-
-  -- it may be called
-  pub may_call : (tells crashes : Type 0) (old : Image) (now : State) → IsMountOf tells crashes s old now.volume now.log → now.volume.blocks ≡ s.logpxd.addr → AreTogether now.volume now.log → MayCall now
-  may_call tells crashes old now m blocks together =
-      let number = m.rest.number in
-      let behind = (accepted_layout s pages accepted).behind in
-      let same = ap (λ map. length map.states) m.has_maps.0 in
-      record { size = omega (arith, same, number, behind, blocks); both = λ none. together }
 
   pub just_mounted : (tells crashes : Type 0) (now image : Image) (block : Super) (volume : Parts) (log : LogParts) → IsMountOf tells crashes s now volume log → (tells → now ≡ image) → block ≡ s → (tells → super_of (page_of image 8) ≡ s) → volume.blocks ≡ s.logpxd.addr → volume.halted ≡ None → AreTogether volume log
       → (tells → IsFreshLog s.logpxd.len s.uuid log.image) → IsJustMounted tells crashes block image volume log

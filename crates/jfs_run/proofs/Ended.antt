@@ -1,5 +1,5 @@
 -- A run on a mounted volume ends.
-use Rattle.std.proofs.Common.{◌≡◌, ◌⊎◌, ◌+◌, ◌-◌, ◌<◌, ◌≤◌, ◌^◌, refl, sym, ap, ◌∙◌, subst, ℕ, suc, Bool, true, false, List, [], ◌∷◌, length, inl, inr, None, arith}
+use Rattle.std.proofs.Common.{◌≡◌, ◌⊎◌, ◌+◌, ◌-◌, ◌<◌, ◌≤◌, ◌^◌, refl, sym, ap, ◌∙◌, subst, ℕ, suc, Bool, true, false, List, [], ◌∷◌, length, inl, inr, arith}
 use Rattle.std.specs.Prelude.{◌==◌, ◌||◌, not, min, if◌then◌else◌}
 use Rattle.std.proofs.lemmas.Bool.{cases_eq, eq-eqb, eqb-true, ne_eqb, false≢true}
 use Rattle.std.proofs.lemmas.List.{length-map}
@@ -17,8 +17,10 @@ use Rattle.jfs_server.specs.groups.proofs.Counts.{at_least, rose_on, rose_since,
 use Rattle.jfs_server.specs.shared.specs.Entries.{Recorded}
 use Rattle.jfs_server.specs.shared.specs.Shared.{entries_in}
 use Rattle.jfs_run.specs.Calls.{Calls, HaveEntries, HaveFronts, AllTold, FirstTold, AreTakenAs, any_failed}
-use Rattle.jfs_run.specs.Ending.{IsEnded, RunSince, are_through, end_after}
-use Rattle.jfs_run.specs.Mounted.{State, state, Few, PartRose, Keeps, Since, IsMadeDurable}
+use Rattle.jfs_server.specs.declared.stopping.Ending.{Ending}
+use Rattle.jfs_server.specs.declared.stopping.Ending.TheVariants.{Home, Left, Full}
+use Rattle.jfs_run.specs.Ending.{IsEnded, RunSince, is_home, are_through, end_after}
+use Rattle.jfs_run.specs.Mounted.{State, state, PartRose, Since}
 use Rattle.jfs_run.specs.Run.{Seen, IsUnmounted}
 use Rattle.jfs_run.specs.Serving.{IsUncalled, IsCalled, IsServed}
 use Rattle.jfs_run.specs.Tasks.{plan_of}
@@ -28,7 +30,6 @@ use Rattle.jfs_run.specs.declared.serving.Called.{Called}
 use Rattle.jfs_run.proofs.Counts.{both_grow, both_rose}
 use Rattle.jfs_run.proofs.Marked.{AreAll, are_all, fronts}
 use Rattle.jfs_run.proofs.Plans.{no_fronts, whole, many_marks}
-use Rattle.jfs_run.proofs.Since.{rose_before, rose_later, since_then, over}
 use Rattle.jfs_run.proofs.Told.{AreReached, told_rise, told_front, told_whole}
 
 abbrev pub calls_of : List Entry → List ℕ → Calls
@@ -56,72 +57,69 @@ as_many_taken [] (v ∷ vs) all = absurd all
 as_many_taken (x ∷ xs) [] all = absurd all
 as_many_taken (x ∷ xs) (v ∷ vs) all = ap suc (as_many_taken xs vs all.1)
 
-module _ {D : Type 0} (d : Ghosts D) (scripts : List (Vec Line)) (now : Moment) (image : Image) (s : Super) (first : State) (few : Few first) (marks : List (Vec Bool)) (x : Called D d) (new : State) (told : List ℕ)
-    (keeps : Keeps (state d x.mounted.volume x.mounted.log) new) (halted : (new.volume.halted ≡ x.mounted.volume.halted) ⊎ PartRose (state d x.mounted.volume x.mounted.log) new)
-    (made : IsMadeDurable x.failed (state d x.mounted.volume x.mounted.log) new) (appended : new.volume.appended ≡ x.mounted.volume.appended)
-    (told_is : told ≡ told_from 1 new.log.durable (marks_of (marks_in marks) x.history.items)) (served : IsServed d scripts now image s first marks x) where
-  abbrev old : State
-  old = state d x.mounted.volume x.mounted.log
+module _ {D : Type 0} (d : Ghosts D) (scripts : List (Vec Line)) (now : Moment) (image : Image) (s : Super) (first : State) (marks : List (Vec Bool)) (x : Called D d) (told : List ℕ)
+    (told_is : told ≡ told_from 1 x.mounted.log.durable (marks_of (marks_in marks) x.history.items)) (is_left : Bool) (served : IsServed d scripts now is_left image s first marks x) where
+  abbrev last : State
+  last = state d x.mounted.volume x.mounted.log
 
-  without_calls : IsUncalled d x → HasRun (plan_of scripts) first x.history.items told x.is_whole new
+  without_calls : IsUncalled d x → HasRun (plan_of scripts) first x.history.items told x.is_whole last
   without_calls u =
-      let none : told ≡ [] = told_is ∙ ap (λ (es : List Entry). told_from 1 new.log.durable (marks_of (marks_in marks) es)) u.history in
-      subst {A = List Entry × List ℕ} (λ z. HasRun (plan_of scripts) first z.0 z.1 x.is_whole new) (λ i. (sym u.history i, sym none i)) record {
+      let none : told ≡ [] = told_is ∙ ap (λ (es : List Entry). told_from 1 x.mounted.log.durable (marks_of (marks_in marks) es)) u.history in
+      subst {A = List Entry × List ℕ} (λ z. HasRun (plan_of scripts) first z.0 z.1 x.is_whole last) (λ i. (sym u.history i, sym none i)) record {
         fronts = no_fronts (plan_of scripts);
         whole = λ is. absurd (false≢true (sym u.is_whole ∙ is));
         first_told = record { waiting = []; are = tt; count = 0; told_is = refl };
         all_told = inl (record { waiting = []; are = tt; told_is = refl });
         calm = inl refl;
-        since = since_then first old new few served.since keeps halted;
+        since = served.since;
       }
 
-  module _ (c : IsCalled d scripts now image s marks x) where
+  module _ (c : IsCalled d scripts now image s first marks x) where
     abbrev durable : ℕ
     durable = x.mounted.log.durable
 
-    waiting : List Bool
-    waiting = marks_of (marks_in marks) (entries_in c.list)
+    abbrev taken : List Bool
+    taken = marks_of (marks_in marks) (entries_in c.list)
 
     all : AreAll now x.failed durable 1 (marks_in marks) c.list
     all = are_all now x.failed durable 1 (length (plan_of scripts)) c.are.fronts (marks_in marks) c.list (omega (arith, many_marks now x.failed durable (plan_of scripts) (marks_in marks) c.list c.are)) c.are.others c.are.each
 
-    told_here : told ≡ told_from 1 new.log.durable (marks_of (marks_in marks) (entries_in c.list))
-    told_here = told_is ∙ ap (λ (es : List Entry). told_from 1 new.log.durable (marks_of (marks_in marks) es)) c.history
+    told_here : told ≡ told_from 1 durable taken
+    told_here = told_is ∙ ap (λ (es : List Entry). told_from 1 durable (marks_of (marks_in marks) es)) c.history
 
-    told_of : AreReached 1 new.log.durable (marks_of (marks_in marks) (entries_in c.list)) → AllTold (calls_of (entries_in c.list) told)
-    told_of reached = record { waiting = marks_of (marks_in marks) (entries_in c.list); are = all.taken; told_is = told_here ∙ told_whole 1 new.log.durable (marks_of (marks_in marks) (entries_in c.list)) reached }
+    told_of : AreReached 1 durable taken → AllTold (calls_of (entries_in c.list) told)
+    told_of reached = record { waiting = taken; are = all.taken; told_is = told_here ∙ told_whole 1 durable taken reached }
 
     -- all entries are durable
-    by_all : new.log.durable ≡ new.volume.appended → AllTold (calls_of (entries_in c.list) told)
-    by_all same = told_of (reached_by 1 new.log.durable (marks_of (marks_in marks) (entries_in c.list))
-        (let long = as_many_taken (entries_in c.list) (marks_of (marks_in marks) (entries_in c.list)) all.taken in let listed = length-map c.list (λ (e : Recorded). e.entry) in let here = c.appended in omega (arith, same, appended, here, long, listed)))
+    by_all : durable ≡ length c.list → AllTold (calls_of (entries_in c.list) told)
+    by_all same = told_of (reached_by 1 durable taken
+        (let long = as_many_taken (entries_in c.list) taken all.taken in let listed = length-map c.list (λ (e : Recorded). e.entry) in omega (arith, same, long, listed)))
 
-    made_by : (failed : Bool) → x.failed ≡ failed → IsMadeDurable failed old new → (x.mounted.volume.halted ≡ None) ⊎ PartRose first old → AllTold (calls_of (entries_in c.list) told) ⊎ PartRose first new
-    made_by false is same _ = inl (told_of (subst (λ (t : State). AreReached 1 t.log.durable (marks_of (marks_in marks) (entries_in c.list))) (sym same) (all.reached is)))
-    made_by true is commits (inr rose) = inr (rose_before first old new few served.since keeps rose)
-    made_by true is commits (inl runs) = by (commits runs)
+    told_or_rose : (failed : Bool) → x.failed ≡ failed → AllTold (calls_of (entries_in c.list) told) ⊎ PartRose first last
+    told_or_rose false is = inl (told_of (all.reached is))
+    told_or_rose true is = by (c.reached is)
       where
-        by : (new.log.durable ≡ new.volume.appended) ⊎ PartRose old new → AllTold (calls_of (entries_in c.list) told) ⊎ PartRose first new
+        by : (durable ≡ length c.list) ⊎ PartRose first last → AllTold (calls_of (entries_in c.list) told) ⊎ PartRose first last
         by (inl same) = inl (by_all same)
-        by (inr rose) = inr (rose_later first old new few served.since keeps rose)
+        by (inr rose) = inr rose
 
-    with_calls : HasRun (plan_of scripts) first x.history.items told x.is_whole new
-    with_calls = subst (λ (es : List Entry). HasRun (plan_of scripts) first es told x.is_whole new) (sym c.history) record {
+    with_calls : HasRun (plan_of scripts) first x.history.items told x.is_whole last
+    with_calls = subst (λ (es : List Entry). HasRun (plan_of scripts) first es told x.is_whole last) (sym c.history) record {
       fronts = fronts now x.failed durable (plan_of scripts) (marks_in marks) c.list c.are;
       whole = λ is. whole now x.failed durable scripts marks c.list c.are (c.whole is);
       first_told =
-          let front = told_front 1 new.log.durable (marks_of (marks_in marks) (entries_in c.list)) in
-          record { waiting = marks_of (marks_in marks) (entries_in c.list); are = all.taken; count = front.0; told_is = told_here ∙ front.1 };
-      all_told = made_by x.failed refl made served.since.halted;
-      calm = over first old new few served.since keeps (subst (λ (es : List Entry). (any_failed es ≡ false) ⊎ PartRose first old) c.history served.calm);
-      since = since_then first old new few served.since keeps halted;
+          let front = told_front 1 durable taken in
+          record { waiting = taken; are = all.taken; count = front.0; told_is = told_here ∙ front.1 };
+      all_told = told_or_rose x.failed refl;
+      calm = subst (λ (es : List Entry). (any_failed es ≡ false) ⊎ PartRose first last) c.history served.calm;
+      since = served.since;
     }
 
-  run_by : IsUncalled d x ⊎ IsCalled d scripts now image s marks x → HasRun (plan_of scripts) first x.history.items told x.is_whole new
+  run_by : IsUncalled d x ⊎ IsCalled d scripts now image s first marks x → HasRun (plan_of scripts) first x.history.items told x.is_whole last
   run_by (inl u) = without_calls u
   run_by (inr c) = with_calls c
 
-  pub has_run : HasRun (plan_of scripts) first x.history.items told x.is_whole new
+  pub has_run : HasRun (plan_of scripts) first x.history.items told x.is_whole last
   has_run = run_by served.calls
 
 pub rising : (history : List Entry) (told : List ℕ) → FirstTold (calls_of history told) → IsRisingFrom 1 told
@@ -130,16 +128,24 @@ rising history told is = subst (IsRisingFrom 1) (sym is.told_is) (told_rise is.c
 -- ---- the end
 
 -- what is through
-pub record AreThrough (is_whole is_broken_off is_made_up : Bool) : Type 0 where
+pub record AreThrough (is_whole is_broken_off : Bool) : Type 0 where
   pub whole : is_whole ≡ true
   pub goes_on : is_broken_off ≡ false
-  pub still : is_made_up ≡ false
 
-pub through_of : (is_whole is_broken_off is_made_up : Bool) → are_through is_whole is_broken_off is_made_up ≡ true → AreThrough is_whole is_broken_off is_made_up
-through_of true false false e = record { whole = refl; goes_on = refl; still = refl }
-through_of true false true e = absurd (cc (e))
-through_of true true b e = absurd (cc (e))
-through_of false a b e = absurd (cc (e))
+pub through_of : (is_whole is_broken_off : Bool) → are_through is_whole is_broken_off ≡ true → AreThrough is_whole is_broken_off
+through_of true false e = record { whole = refl; goes_on = refl }
+through_of true true e = absurd (cc (e))
+through_of false a e = absurd (cc (e))
+
+pub home_of : (ending : Ending) → is_home ending ≡ true → ending ≡ Home
+home_of Home e = refl
+home_of Left e = absurd (cc (e))
+home_of Full e = absurd (cc (e))
+
+-- one of two that isn't so
+pub at_last : {A : Type 0} (B : Type 0) → (A → ⊥) → A ⊎ B → B
+at_last B none (inl a) = absurd (none a)
+at_last B none (inr b) = b
 
 -- a run that didn't end for want of memory is through
 pub not_short : (is_through is_full : Bool) (before now : ℕ) → (end_after is_through is_full before now ≡ ends.Memory → ⊥) → is_through ≡ true
@@ -192,9 +198,6 @@ module _ (first now : State) (before : ℕ) (counts : first.volume.faults + firs
     still (inl rose) = absurd (not_risen rose)
     still (inr a) = a
 
-    pub runs : now.volume.halted ≡ None
-    runs = still (risen_or run.since.halted)
-
     pub calm : any_failed history ≡ false
     calm = still all_calm
 
@@ -202,16 +205,16 @@ module _ (first now : State) (before : ℕ) (counts : first.volume.faults + firs
     told_all = still all_told
 
     -- where a count rises or a fact is so, it is so
-    pub unrisen : {X : Type 0} (now_faults : ℕ) → now_faults ≡ total → Rose (joint now) now_faults ⊎ X → X
-    unrisen now_faults is (inl rose) = absurd (not_risen (rose_on before (joint now) total few joint_grew (subst (Rose (joint now)) is rose)))
-    unrisen now_faults is (inr fact) = fact
+    pub unrisen : {X : Type 0} → Rose (joint now) total ⊎ X → X
+    unrisen (inl rose) = absurd (not_risen (rose_on before (joint now) total few joint_grew rose))
+    unrisen (inr fact) = fact
 
-    pub unmounted : (tells crashes : Type 0) (superblock : List ℕ) (new : Seen) → new.faults ≡ total → Rose (joint now) new.faults ⊎ IsEnded tells crashes superblock (joint now) new → IsUnmounted tells crashes superblock new
-    unmounted tells crashes superblock new is ended = (unrisen new.faults is ended).unmounted
+    pub no_part : PartRose first now → ⊥
+    no_part part = not_risen (halt_rose part)
 
 module _ (tells crashes : Type 0) (superblock : List ℕ) (plan : List (List Line)) (is_left is_full : Bool) (first now : State) (before : ℕ) (counts : first.volume.faults + first.high ≡ before) (few : before < 2 ^ 64)
     (history : List Entry) (told : List ℕ) (is_whole : Bool) (run : HasRun plan first history told is_whole now) (new : Seen) (grown : Grows (joint now) new.faults)
-    (ended : is_left ≡ false → now.volume.halted ≡ None → is_full ≡ false → Rose (joint now) new.faults ⊎ IsEnded tells crashes superblock (joint now) new) where
+    (ended : is_left ≡ false → is_full ≡ false → PartRose first now ⊎ (Rose (joint now) new.faults ⊎ IsEnded tells crashes superblock (joint now) new)) where
   -- memory ran out, or the log is full
   short : RunSince tells crashes superblock plan is_left before new (calls_of history told) ends.Memory
   short = (
@@ -229,9 +232,12 @@ module _ (tells crashes : Type 0) (superblock : List ℕ) (plan : List (List Lin
     told = told_all first now before counts few plan history told is_whole run new.faults grown same below;
     calm = calm first now before counts few plan history told is_whole run new.faults grown same below;
     faults_are = same;
-    ended = λ left. unmounted first now before counts few plan history told is_whole run new.faults grown same below tells crashes superblock new refl
-        (ended left (runs first now before counts few plan history told is_whole run new.faults grown same below) room);
+    ended = λ left. by (ended left room);
   }
+    where
+      by : PartRose first now ⊎ (Rose (joint now) new.faults ⊎ IsEnded tells crashes superblock (joint now) new) → IsUnmounted tells crashes superblock new
+      by (inl part) = absurd (no_part first now before counts few plan history told is_whole run new.faults grown same below part)
+      by (inr end) = (unrisen first now before counts few plan history told is_whole run new.faults grown same below end).unmounted
 
   risen : (new.faults ≡ before → ⊥) → Grows before new.faults → Rose before new.faults
   risen other (inl same) = absurd (other same)

@@ -12,5 +12,6 @@ pub mod Ended
 pub mod Begun
 pub mod Legally
 pub mod Finished
-pub mod Durable
 pub mod Replied
+pub mod Home
+pub mod Unmounted

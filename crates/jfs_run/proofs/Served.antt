@@ -1,39 +1,44 @@
 -- What a run's server leaves.
-use Rattle.std.proofs.Common.{◌≡◌, ◌⊎◌, ◌<◌, ◌++◌, ℕ, Bool, false, List, length, sym, ap, ◌∙◌, subst, inl, inr, arith, None}
+use Rattle.std.proofs.Common.{◌≡◌, ◌⊎◌, ◌<◌, ◌++◌, ℕ, Bool, true, false, List, length, refl, sym, ap, ◌∙◌, subst, inl, inr, arith, None}
 use Rattle.std.proofs.lemmas.List.{length-map}
 use Rattle.std.specs.Global.{Vec}
 use Rattle.atomic_table.specs.Seated.{TableId}
 use Rattle.jfs_bits.specs.declared.descriptor.Moment.{Moment}
 use Rattle.jfs_disk.specs.Crash.{DiskState, last_of}
 use Rattle.jfs_disk.specs.Image.{Image, page_of}
+use Rattle.jfs_disk.specs.Moment.{IsResting}
 use Rattle.jfs_disk.specs.declared.disk.Disk.{Ghosts}
 use Rattle.jfs_super.specs.Super.{super_of}
 use Rattle.jfs_super.specs.declared.fields.Super.{Super}
 use Rattle.jfs_plain.specs.declared.call.Entry.{Entry}
 use Rattle.jfs_plain.specs.declared.call.Line.{Line}
 use Rattle.jfs_server.specs.Start.{IsStarted}
-use Rattle.jfs_server.specs.Stopped.{GoesOn, IsEndOf, IsStopped}
+use Rattle.jfs_server.specs.Stopped.{AnyRose, GoesOn, IsEndOf, IsStopped}
+use Rattle.jfs_server.specs.declared.stopping.Ending.TheVariants.{Home, Left}
+use Rattle.jfs_server.specs.declared.stopping.Last.TheVariants.{Nothing, Syncpoint}
 use Rattle.jfs_server.specs.declared.stopping.Stopped.{Stopped}
 use Rattle.jfs_server.specs.shared.specs.Base.{start_of}
 use Rattle.jfs_server.specs.shared.specs.Left.{IsLeft}
-use Rattle.jfs_server.specs.shared.specs.Shared.{IfConsistent, IfChecked, timed_in, lasting_in}
+use Rattle.jfs_server.specs.shared.specs.Shared.{IfConsistent, IfKeepable, timed_in, lasting_in}
 use Rattle.jfs_server.specs.shared.specs.Shared as shared
 use Rattle.jfs_server.specs.shared.specs.Start.{base_at}
-use Rattle.jfs_server.specs.shared.specs.kept_history.specs.Checked.{IsCheckedImage}
-use Rattle.jfs_server.specs.shared.specs.kept_history.proofs.Checked.{consistent_image}
+use Rattle.jfs_server.specs.shared.specs.kept_history.specs.Keepable.{IsKeepableImage}
 use Rattle.jfs_server.specs.shared.proofs.KeptServed.{timed_same}
-use Rattle.jfs_server.specs.shared.proofs.Served.{history_law}
-use Rattle.jfs_server.specs.shared.specs.legal.specs.History.{AreLegal}
+use Rattle.jfs_server.specs.shared.specs.legal.specs.History.{AreLegal, IsOver}
+use Rattle.jfs_server.specs.shared.specs.legal.specs.served.specs.halves.specs.Parts.{Parts}
+use Rattle.jfs_server.specs.shared.specs.legal.proofs.Over.{over_law}
 use Rattle.jfs_server.specs.shared.specs.legal.specs.served.specs.mounted.specs.declared.mounted.Mounted.{Mounted}
 use Rattle.jfs_server.specs.shared.specs.legal.specs.served.specs.shown.specs.meaning.specs.Image.{IsConsistentImage, volume_of}
 use Rattle.jfs_server.specs.shared.specs.legal.specs.served.specs.Legal.{Timed}
+use Rattle.jfs_server.specs.shared.specs.legal.specs.served.specs.unmount.specs.Unmount.{IsAllHome}
 use Rattle.jfs_server.specs.turns.specs.Lists.{Base}
 use Rattle.jfs_run.specs.Calls.{AreOfClients, any_failed}
 use Rattle.jfs_run.specs.Clients.{ServerPass, EachCame}
+use Rattle.jfs_run.specs.Ending.{last_for, unbegun}
 use Rattle.jfs_run.specs.Legal.{all_at, HasReplied}
 use Rattle.jfs_run.specs.Left.{IsLeftWith}
-use Rattle.jfs_run.specs.Mounted.{State, state, MayCall, PartRose, Since}
-use Rattle.jfs_run.specs.Serving.{AreCalled, HaveRoom, IsUncalled, IsHandedOut, IsServed}
+use Rattle.jfs_run.specs.Mounted.{State, state, PartRose, Since}
+use Rattle.jfs_run.specs.Serving.{AreCalled, HaveRoom, IsHomeFor, IsUncalled, IsHandedOut, IsServed}
 use Rattle.jfs_run.specs.Tasks.{plan_of}
 use Rattle.jfs_run.specs.Telling.{marks_in}
 use Rattle.jfs_run.specs.declared.serving.Called.{Called}
@@ -41,6 +46,32 @@ use Rattle.jfs_run.proofs.Marked.{AreAll, are_all}
 use Rattle.jfs_run.proofs.Passes.{EachFrom, from_places, at_place, last_place, IsFresh, IsSeat, fresh, each_kept, seats, fronts, few_came, few_ready}
 use Rattle.jfs_run.proofs.Plans.{many_marks}
 use Rattle.jfs_run.proofs.Since.{at_mount}
+
+-- a history that goes on may end
+over_by : (broken : Bool) (area : ℕ → ℕ) (log_pages : ℕ) (start : Parts) (es : List Timed) (p : Parts) → shared.GoesOn broken area log_pages start es p → IsOver area log_pages start es p
+over_by false area log_pages start es p goes = over_law area log_pages start es p goes
+over_by true area log_pages start es p over = over
+
+not_left : (is_left : Bool) → unbegun is_left ≡ Home → is_left ≡ false
+not_left true e = absurd (cc (e))
+not_left false e = refl
+
+asks_home : (is_left failed : Bool) → last_for is_left failed ≡ Syncpoint → is_left ≡ false
+asks_home false failed e = refl
+asks_home true true e = absurd (cc (e))
+asks_home true false e = absurd (cc (e))
+
+left_by : {A : Type 0} (is_left failed : Bool) → (last_for is_left failed ≡ Syncpoint → A) → (is_left ≡ true) ⊎ A
+left_by false failed f = inr (f refl)
+left_by true failed f = inl refl
+
+some_last : (is_left : Bool) → last_for is_left true ≡ Nothing → ⊥
+some_last false e = absurd (cc (e))
+some_last true e = absurd (cc (e))
+
+is_to_be : (is_left : Bool) → unbegun is_left ≡ Left → is_left ≡ true
+is_to_be true e = refl
+is_to_be false e = absurd (cc (e))
 
 module _ {D : Type 0} (d : Ghosts D) (scripts : List (Vec Line)) (now : Moment) (image : Image) (s : Super) (m : Mounted D d) (marks : List (Vec Bool)) where
   abbrev first : State
@@ -54,17 +85,19 @@ module _ {D : Type 0} (d : Ghosts D) (scripts : List (Vec Line)) (now : Moment) 
   uncalled_calm : (x : Called D d) → IsUncalled d x → any_failed x.history.items ≡ false
   uncalled_calm x u = ap any_failed u.history
 
-  pub uncalled : (x : Called D d) → IsUncalled d x → x.mounted ≡ m → MayCall first → m.volume.halted ≡ None → HaveRoom scripts marks → IsServed d scripts now image s first marks x
-  uncalled x u same may runs room = record {
+  pub uncalled : (is_left : Bool) (x : Called D d) → IsUncalled d x → x.mounted ≡ m → x.ending ≡ unbegun is_left → m.volume.halted ≡ None → IsAllHome m.volume → HaveRoom scripts marks → IsServed d scripts now is_left image s first marks x
+  uncalled is_left x u same ended runs home room = record {
     calls = inl u;
     few = few_ready scripts marks room;
-    since = subst (λ (n : Mounted D d). Since first (state d n.volume n.log)) (sym same) (at_mount first may runs);
+    since = subst (λ (n : Mounted D d). Since first (state d n.volume n.log)) (sym same) (at_mount first runs);
     calm = inl (uncalled_calm x u);
+    home = λ is. record { asked = not_left is_left (sym ended ∙ is); home = subst (λ (n : Mounted D d). IsAllHome n.volume) (sym same) home; runs = ap (λ (n : Mounted D d). n.volume.halted) same ∙ runs };
+    left_for = λ is. inl (is_to_be is_left (sym ended ∙ is));
   }
 
   -- ---- a server was stopped
 
-  module _ (stopped : Stopped D d) (failed : Bool) (table : TableId) (passes after : List (ServerPass d)) (started : IsStarted d base (length scripts) table passes) (came : EachCame d now failed scripts passes after marks) (some_clients : 0 < length scripts) (st : IsStopped d after stopped) where
+  module _ (stopped : Stopped D d) (failed : Bool) (table : TableId) (passes after : List (ServerPass d)) (started : IsStarted d base (length scripts) table passes) (came : EachCame d now failed scripts passes after marks) (some_clients : 0 < length scripts) (is_left : Bool) (st : IsStopped d (last_for is_left failed) after stopped) where
     news : EachFrom (IsFresh d table (length scripts) base) 1 passes
     news = fresh d table base (length scripts) passes started
 
@@ -84,7 +117,6 @@ module _ {D : Type 0} (d : Ghosts D) (scripts : List (Vec Line)) (now : Moment) 
     stopped_since : Since first (state d stopped.mounted.volume stopped.mounted.log)
     stopped_since = record {
       keeps = record {
-        may = record { size = ends.size; both = ends.both };
         count = ends.pages;
         room = ends.room;
         pages = ends.log_pages;
@@ -93,6 +125,16 @@ module _ {D : Type 0} (d : Ghosts D) (scripts : List (Vec Line)) (now : Moment) 
       };
       halted = ends.runs;
     }
+
+    stopped_left : stopped.ending ≡ Left → (is_left ≡ true) ⊎ PartRose first (state d stopped.mounted.volume stopped.mounted.log)
+    stopped_left is = left_by is_left failed (subst (λ (b : Base). stopped.ending ≡ Left → last_for is_left failed ≡ Syncpoint → AnyRose (start_of b) stopped.mounted.volume (d.fault_count stopped.mounted.log.part)) base_is st.left_for is)
+
+    stopped_home : stopped.ending ≡ Home → IsHomeFor is_left stopped.mounted.volume
+    stopped_home is = let at = st.home is in record { asked = asks_home is_left failed at.asked; home = at.home; runs = at.runs }
+
+    stopped_reached : failed ≡ true → (stopped.mounted.log.durable ≡ length st.list) ⊎ PartRose first (state d stopped.mounted.volume stopped.mounted.log)
+    stopped_reached is = subst (λ (b : Base). (last_for is_left failed ≡ Nothing → ⊥) → (stopped.mounted.log.durable ≡ length st.list) ⊎ AnyRose (start_of b) stopped.mounted.volume (d.fault_count stopped.mounted.log.part)) base_is st.reached
+        (λ none. some_last is_left (ap (last_for is_left) (sym is) ∙ none))
 
     stopped_calm : (any_failed stopped.history.items ≡ false) ⊎ PartRose first (state d stopped.mounted.volume stopped.mounted.log)
     stopped_calm = ends.calm
@@ -128,20 +170,19 @@ module _ {D : Type 0} (d : Ghosts D) (scripts : List (Vec Line)) (now : Moment) 
       abbrev area : ℕ → ℕ
       area = (volume_of s (page_of image)).area
 
-      pub replied : (is_broken_off : Bool) → is_broken_off ≡ stopped.is_broken_off → HasReplied s (page_of image) now is_broken_off stopped.history.items stopped.mounted.volume
-      replied is_broken_off is = record {
+      pub replied : HasReplied s (page_of image) now stopped.history.items stopped.mounted.volume
+      replied = record {
         start = served.start;
         holds = served.holds;
         runs = served.runs;
-        goes_on = λ whole. subst {A = Bool × List Timed} (λ z. shared.GoesOn z.0 area s.logpxd.len served.start z.1 stopped.mounted.volume) (λ i. ((sym is ∙ whole) i, moments i)) served.goes_on;
-        legal = subst (AreLegal area s.logpxd.len served.start) moments (history_law stopped.is_broken_off area s.logpxd.len served.start (timed_in st.list) stopped.mounted.volume served.goes_on);
+        over = subst (λ (es : List Timed). IsOver area s.logpxd.len served.start es stopped.mounted.volume) moments (over_by stopped.is_broken_off area s.logpxd.len served.start (timed_in st.list) stopped.mounted.volume served.goes_on);
       }
 
     -- ---- what a crash leaves
 
-    left_with : d.tells → d.tells_crashes → (spelled : super_of (page_of image 8) ≡ s) → stopped.is_broken_off ≡ false → AreOfClients (length scripts) stopped.history.items → IsCheckedImage s image
+    left_with : d.tells → d.tells_crashes → (spelled : super_of (page_of image 8) ≡ s) → AreOfClients (length scripts) stopped.history.items → IsKeepableImage s image
         → IsLeftWith s image now stopped.history.items stopped.mounted.log.durable (last_of stopped.mounted.volume.past ++ last_of (d.past stopped.mounted.log.part))
-    left_with t c spelled whole others checked = record {
+    left_with t c spelled others checked = record {
       follows = record { start = is.start; runs = is.runs; tree = is.holds.tree; room = is.holds.room; legal = subst (AreLegal (volume_of s (page_of image)).area s.logpxd.len is.start) at_once is.legal };
       list = lasting_in st.list;
       entries_are = timed_same st.list ∙ at_once;
@@ -153,39 +194,50 @@ module _ {D : Type 0} (d : Ghosts D) (scripts : List (Vec Line)) (now : Moment) 
 
         is : IsLeft s image st.list stopped.mounted.log.durable state_now
         is =
-            let by_base = subst (λ (b : Base). IfChecked b (λ t image. IsLeft t image st.list stopped.mounted.log.durable state_now)) base_is (st.left t c whole) in
-            subst (λ (t : Super). IsCheckedImage t image → IsLeft t image st.list stopped.mounted.log.durable state_now) spelled by_base checked
+            let by_base = subst (λ (b : Base). IfKeepable b (λ t image. IsLeft t image st.list stopped.mounted.log.durable state_now)) base_is (st.left t c) in
+            subst (λ (t : Super). IsKeepableImage t image → IsLeft t image st.list stopped.mounted.log.durable state_now) spelled by_base checked
 
         at_once : timed_in st.list ≡ all_at now stopped.history.items
-        at_once = moments t spelled (consistent_image s image checked) others
+        at_once = moments t spelled (checked.keepable.consistent) others
+
+    rests_with : d.tells → d.tells_crashes → (spelled : super_of (page_of image 8) ≡ s) → stopped.ending ≡ Home → IsKeepableImage s image → IsResting (last_of stopped.mounted.volume.past)
+    rests_with t c spelled ended checked =
+        let by_base = subst (λ (b : Base). IfKeepable b (λ t image. IsResting (last_of stopped.mounted.volume.past))) base_is (st.rests ended t c) in
+        subst (λ (t : Super). IsKeepableImage t image → IsResting (last_of stopped.mounted.volume.past)) spelled by_base checked
 
     -- ---- all of it
 
-    pub is_served : (x : Called D d) → x.mounted ≡ stopped.mounted → (d.tells → super_of (page_of image 8) ≡ s) → IsUncalled d x ⊎ IsHandedOut d scripts failed marks stopped x → IsServed d scripts now image s first marks x
-    is_served x same spelled (inl u) = record {
+    pub is_served : (x : Called D d) → x.mounted ≡ stopped.mounted → x.ending ≡ stopped.ending → (d.tells → super_of (page_of image 8) ≡ s) → IsUncalled d x ⊎ IsHandedOut d scripts failed marks stopped x → IsServed d scripts now is_left image s first marks x
+    is_served x same ended spelled (inl u) = record {
       calls = inl u;
       few = few_came d now failed scripts passes after marks came;
       since = subst (λ (n : Mounted D d). Since first (state d n.volume n.log)) (sym same) stopped_since;
       calm = inl (uncalled_calm x u);
+      home = λ is. subst (λ (n : Mounted D d). IsHomeFor is_left n.volume) (sym same) (stopped_home (sym ended ∙ is));
+      left_for = λ is. subst (λ (n : Mounted D d). (is_left ≡ true) ⊎ PartRose first (state d n.volume n.log)) (sym same) (stopped_left (sym ended ∙ is));
     }
-    is_served x same spelled (inr h) =
-        subst (IsServed d scripts now image s first marks) (sym x_is) record {
+    is_served x same ended spelled (inr h) =
+        subst (IsServed d scripts now is_left image s first marks) (sym x_is) record {
           calls = inr (record {
             list = st.list;
             history = st.history;
             appended = st.all;
             are = called others;
             whole = h.whole;
-            replied = λ t consistent. replied t (spelled t) consistent others x.is_broken_off h.is_broken_off;
-            left = λ t c whole checked. left_with t c (spelled t) (sym h.is_broken_off ∙ whole) others checked;
+            reached = stopped_reached;
+            replied = λ t consistent. replied t (spelled t) consistent others;
+            left = λ t c checked. left_with t c (spelled t) others checked;
+            rests = λ t c is checked. rests_with t c (spelled t) is checked;
           });
           few = few_came d now failed scripts passes after marks came;
           since = stopped_since;
           calm = stopped_calm;
+          home = stopped_home;
+          left_for = stopped_left;
         }
       where
         others : AreOfClients (length scripts) stopped.history.items
         others = subst (λ (v : Vec Entry). AreOfClients (length scripts) v.items) h.history h.others
 
-        x_is : x ≡ record { mounted = stopped.mounted; history = stopped.history; is_whole = x.is_whole; is_broken_off = x.is_broken_off; failed = failed }
-        x_is = λ i. record { mounted = same i; history = h.history i; is_whole = x.is_whole; is_broken_off = x.is_broken_off; failed = h.failed_is i }
+        x_is : x ≡ record { mounted = stopped.mounted; history = stopped.history; is_whole = x.is_whole; is_broken_off = x.is_broken_off; failed = failed; ending = stopped.ending }
+        x_is = λ i. record { mounted = same i; history = h.history i; is_whole = x.is_whole; is_broken_off = x.is_broken_off; failed = h.failed_is i; ending = ended i }

@@ -1,7 +1,11 @@
 -- The end of a mounted volume, and of its run.
-use Rattle.std.specs.Prelude.{◌≡◌, ◌⊎◌, ◌==◌, ◌||◌, ◌&&◌, ◌-◌, ◌^◌, not, if◌then◌else◌, ℕ, Bool, false, List, Result, Ok, Err}
+use Rattle.std.specs.Prelude.{◌≡◌, ◌⊎◌, ◌==◌, ◌||◌, ◌&&◌, ◌-◌, ◌^◌, not, if◌then◌else◌, ℕ, Bool, true, false, List, Result, Ok, Err}
 use Rattle.jfs_bits.specs.Count.{Rose}
 use Rattle.jfs_plain.specs.declared.call.Line.{Line}
+use Rattle.jfs_server.specs.declared.stopping.Ending.{Ending}
+use Rattle.jfs_server.specs.declared.stopping.Ending.TheVariants.{Home, Left, Full}
+use Rattle.jfs_server.specs.declared.stopping.Last.{Last}
+use Rattle.jfs_server.specs.declared.stopping.Last.TheVariants.{Nothing, Commit, Syncpoint}
 use Rattle.jfs_server.specs.shared.specs.legal.specs.served.specs.mounted.specs.declared.mounted.MountError.{MountError}
 use Rattle.jfs_server.specs.shared.specs.legal.specs.served.specs.mounted.specs.declared.mounted.MountError.TheVariants as mounts
 use Rattle.jfs_run.specs.Calls.{Calls, HaveEntries, AllTold, AllCalled, SomeCalled, any_failed}
@@ -48,9 +52,28 @@ TakesBy before now (Err end) = FailsToTake before now end
 
 -- ---- how it ends
 
--- Each line has its entry, the history goes on, and nothing had to be made up for.
-abbrev pub are_through : Bool → Bool → Bool → Bool
-are_through is_whole is_broken_off is_made_up = is_whole && (not is_broken_off && not is_made_up)
+-- Behind a mount alone all pages are home.
+abbrev pub unbegun : Bool → Ending
+unbegun true = Left
+unbegun false = Home
+
+-- what a run's server does last
+abbrev pub last_for : Bool → Bool → Last
+last_for false failed = Syncpoint
+last_for true true = Commit
+last_for true false = Nothing
+
+abbrev pub is_home : Ending → Bool
+is_home Home = true
+is_home _ = false
+
+abbrev pub is_full : Ending → Bool
+is_full Full = true
+is_full _ = false
+
+-- Each line has its entry, and the history goes on.
+abbrev pub are_through : Bool → Bool → Bool
+are_through is_whole is_broken_off = is_whole && not is_broken_off
 
 abbrev pub end_after : Bool → Bool → ℕ → ℕ → RunEnd
 end_after is_through is_full before now =

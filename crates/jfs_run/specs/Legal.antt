@@ -2,16 +2,13 @@
 use Rattle.std.specs.Prelude.{◌≡◌, ◌⊎◌, [], ℕ, Bool, false, List, map, None}
 use Rattle.jfs_bits.specs.declared.descriptor.Moment.{Moment}
 use Rattle.jfs_disk.specs.Image.{Image, page_of}
-use Rattle.jfs_disk.specs.Crash.{DiskState}
 use Rattle.jfs_server.specs.shared.specs.legal.specs.served.specs.halves.specs.Parts.{Parts}
-use Rattle.jfs_server.specs.shared.specs.legal.specs.served.specs.halves.specs.Log.{LogParts}
 use Rattle.jfs_plain.specs.declared.call.Entry.{Entry}
 use Rattle.jfs_server.specs.shared.specs.legal.specs.served.specs.Holds.{tree_at, room_at}
 use Rattle.jfs_server.specs.shared.specs.legal.specs.served.specs.Laws.{HoldsImage, IsImageOf}
 use Rattle.jfs_server.specs.shared.specs.legal.specs.served.specs.shown.specs.kinds.specs.Images.{HasWholeFiles}
-use Rattle.jfs_server.specs.shared.specs.legal.specs.served.specs.unmount.specs.Unmount.{Ends}
 use Rattle.jfs_server.specs.shared.specs.legal.specs.served.specs.Legal.{Timed, IsLegal}
-use Rattle.jfs_server.specs.shared.specs.legal.specs.History.{at}
+use Rattle.jfs_server.specs.shared.specs.legal.specs.History.{at, IsOver}
 use Rattle.jfs_server.specs.shared.specs.legal.specs.History as history
 use Rattle.jfs_super.specs.Rules.{blocks_of}
 use Rattle.jfs_super.specs.declared.fields.Super.{Super}
@@ -29,10 +26,6 @@ all_at now es = map (at now) es
 -- all are legal
 abbrev pub AreLegal : (ℕ → ℕ) → ℕ → Moment → Parts → List Entry → Type 0
 AreLegal area log_pages now start es = history.AreLegal area log_pages start (all_at now es)
-
--- the same, and the next call may come
-abbrev pub GoOn : (ℕ → ℕ) → ℕ → Moment → Parts → List Entry → Parts → Type 0
-GoOn area log_pages now start es p = history.GoOn area log_pages start (all_at now es) p
 
 -- ---- a run
 
@@ -70,14 +63,9 @@ IfUnmounted end is_left fact = end ≡ ends.Done → is_left ≡ false → fact
 
 -- ---- for the prover
 
--- A volume was unmounted whose parts were these, and whose disk has this image then.
-abbrev pub WasUnmounted : (tells crashes : Type 0) → List ℕ → Parts → LogParts → Image → Type 0
-WasUnmounted tells crashes superblock volume log image = (past : List DiskState) × Ends tells crashes superblock volume log image past
-
--- The entries are legal from a volume on that holds the image's tree; and where they didn't break off, they go on from these parts.
-pub record HasReplied (s : Super) (page : ℕ → List ℕ) (now : Moment) (is_broken_off : Bool) (es : List Entry) (p : Parts) : Type 0 where
+-- The entries are legal from a volume on that holds the image's tree, and these parts are what they leave, as far as that is known where memory ran out for a call.
+pub record HasReplied (s : Super) (page : ℕ → List ℕ) (now : Moment) (es : List Entry) (p : Parts) : Type 0 where
   pub start : Parts
   pub holds : HoldsImage s page start
   pub runs : start.halted ≡ None
-  pub goes_on : is_broken_off ≡ false → GoOn (meaning.volume_of s page).area s.logpxd.len now start es p
-  pub legal : AreLegal (meaning.volume_of s page).area s.logpxd.len now start es
+  pub over : IsOver (meaning.volume_of s page).area s.logpxd.len start (all_at now es) p

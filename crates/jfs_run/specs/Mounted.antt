@@ -1,10 +1,9 @@
 -- A mounted volume with its log, between its mount and the end of its run.
-use Rattle.std.specs.Prelude.{◌≡◌, ◌⊎◌, ◌≤◌, ◌<◌, ◌^◌, ℕ, Bool, true, false, length, None}
+use Rattle.std.specs.Prelude.{◌≡◌, ◌⊎◌, ℕ, None}
 use Rattle.jfs_bits.specs.Count.{Rose}
 use Rattle.jfs_disk.specs.declared.disk.Disk.{Ghosts}
 use Rattle.jfs_logpages.specs.declared.log_side.LogSide.{LogSide}
 use Rattle.jfs_server.specs.groups.specs.Start.{Grows}
-use Rattle.jfs_server.specs.shared.specs.legal.specs.served.specs.call.specs.Lent.{AreBoth}
 use Rattle.jfs_server.specs.shared.specs.legal.specs.served.specs.volume_calls.specs.Together.{log_parts}
 use Rattle.jfs_server.specs.shared.specs.legal.specs.served.specs.halves.specs.Log.{LogParts}
 use Rattle.jfs_server.specs.shared.specs.legal.specs.served.specs.halves.specs.Parts.{Parts}
@@ -19,23 +18,12 @@ pub record State : Type 0 where
 abbrev pub state : {D : Type 0} → (d : Ghosts D) → Parts → LogSide D d → State
 state d volume side = record { volume = volume; log = log_parts d side; high = d.fault_count side.part; pages = d.page_count side.part }
 
--- what a commit and an unmount want
-pub record MayCall (s : State) : Type 0 where
-  pub size : length s.volume.map.states ≤ s.volume.blocks
-  pub both : AreBoth s.volume s.log
-
--- both counts at the mount
-pub record Few (s : State) : Type 0 where
-  pub low : s.volume.faults < 2 ^ 64
-  pub high : s.high < 2 ^ 64
-
 -- a count of one of the parts rose
 abbrev pub PartRose : State → State → Type 0
 PartRose old new = Rose old.volume.faults new.volume.faults ⊎ Rose old.high new.high
 
 -- Both parts are as large as before, and may be joined again; of each some calls may have failed.
 pub record Keeps (old new : State) : Type 0 where
-  pub may : MayCall new
   pub count : new.volume.count ≡ old.volume.count
   pub room : new.volume.room ≡ old.volume.room
   pub pages : new.pages ≡ old.pages
@@ -46,8 +34,3 @@ pub record Keeps (old new : State) : Type 0 where
 pub record Since (old new : State) : Type 0 where
   pub keeps : Keeps old new
   pub halted : (new.volume.halted ≡ None) ⊎ PartRose old new
-
--- Where a client was told that the log failed, a volume that ran was committed: all entries are durable, or a call failed. Else nothing was done.
-abbrev pub IsMadeDurable : Bool → State → State → Type 0
-IsMadeDurable false old new = new ≡ old
-IsMadeDurable true old new = (old.volume.halted ≡ None) → (new.log.durable ≡ new.volume.appended) ⊎ PartRose old new

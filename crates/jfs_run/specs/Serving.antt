@@ -1,23 +1,27 @@
 -- What a server leaves behind the calls of a run's clients.
-use Rattle.std.specs.Prelude.{◌≡◌, ◌⊎◌, ◌≤◌, ◌==◌, ◌++◌, [], ◌∷◌, ℕ, suc, Bool, true, false, List, length, take, vec_capacity}
+use Rattle.std.specs.Prelude.{◌≡◌, ◌⊎◌, ◌≤◌, ◌==◌, ◌++◌, [], ◌∷◌, ℕ, suc, Bool, true, false, List, length, take, vec_capacity, None}
 use Rattle.std.specs.Bool.{MatchBool}
 use Rattle.std.specs.Global.{Vec}
 use Rattle.jfs_bits.specs.declared.descriptor.Moment.{Moment}
 use Rattle.jfs_disk.specs.Crash.{last_of}
 use Rattle.jfs_disk.specs.Image.{Image, page_of}
+use Rattle.jfs_disk.specs.Moment.{IsResting}
 use Rattle.jfs_disk.specs.declared.disk.Disk.{Ghosts}
 use Rattle.jfs_super.specs.declared.fields.Super.{Super}
 use Rattle.jfs_plain.specs.declared.call.Line.{Line}
 use Rattle.jfs_server.specs.shared.specs.Entries.{Recorded}
 use Rattle.jfs_server.specs.shared.specs.Shared.{entries_in}
-use Rattle.jfs_server.specs.shared.specs.kept_history.specs.Checked.{IsCheckedImage}
+use Rattle.jfs_server.specs.shared.specs.kept_history.specs.Keepable.{IsKeepableImage}
 use Rattle.jfs_server.specs.shared.specs.legal.specs.served.specs.shown.specs.meaning.specs.Image.{IsConsistentImage}
+use Rattle.jfs_server.specs.shared.specs.legal.specs.served.specs.halves.specs.Parts.{Parts}
+use Rattle.jfs_server.specs.shared.specs.legal.specs.served.specs.unmount.specs.Unmount.{IsAllHome}
 use Rattle.jfs_run.specs.Calls.{IsEntryOf, IsTakenAs, AreOfClients, any_failed}
 use Rattle.jfs_run.specs.Legal.{HasReplied}
 use Rattle.jfs_run.specs.Left.{IsLeftWith}
 use Rattle.jfs_run.specs.Mounted.{State, state, PartRose, Since}
 use Rattle.jfs_run.specs.Tasks.{plan_of, lines_in}
 use Rattle.jfs_run.specs.Telling.{marks_in, marks_left, AreAsMany}
+use Rattle.jfs_server.specs.declared.stopping.Ending.TheVariants.{Home, Left}
 use Rattle.jfs_server.specs.declared.stopping.Stopped.{Stopped}
 use Rattle.jfs_run.specs.declared.serving.Called.{Called}
 
@@ -65,6 +69,12 @@ HaveRoom _ _ = ⊥
 
 -- ---- what is left
 
+-- The volume wasn't to be left: all its pages are home, and it runs.
+pub record IsHomeFor (is_left : Bool) (p : Parts) : Type 0 where
+  pub asked : is_left ≡ false
+  pub home : IsAllHome p
+  pub runs : p.halted ≡ None
+
 module _ {D : Type 0} (d : Ghosts D) where
   -- nothing was called
   pub record IsUncalled (x : Called D d) : Type 0 where
@@ -81,20 +91,27 @@ module _ {D : Type 0} (d : Ghosts D) where
     pub is_broken_off : x.is_broken_off ≡ stopped.is_broken_off
     pub failed_is : x.failed ≡ failed
 
-  -- The history is that of a list which the clients' calls made, of a volume that was mounted from this image.
-  pub record IsCalled (scripts : List (Vec Line)) (now : Moment) (image : Image) (s : Super) (marks : List (Vec Bool)) (x : Called D d) : Type 0 where
+  -- The history is that of a list which the clients' calls made, of a volume that was mounted from this image and had this state.
+  pub record IsCalled (scripts : List (Vec Line)) (now : Moment) (image : Image) (s : Super) (old : State) (marks : List (Vec Bool)) (x : Called D d) : Type 0 where
     pub list : List Recorded
     pub history : x.history.items ≡ entries_in list
     pub appended : x.mounted.volume.appended ≡ length list
     pub are : AreCalled now x.failed x.mounted.log.durable (plan_of scripts) (marks_in marks) list
     pub whole : x.is_whole ≡ true → AreAsMany scripts marks
-    pub replied : d.tells → IsConsistentImage s (page_of image) → HasReplied s (page_of image) now x.is_broken_off x.history.items x.mounted.volume
-    pub left : d.tells → d.tells_crashes → x.is_broken_off ≡ false → IsCheckedImage s image
+    -- where an entry couldn't be made durable all are, or a call on the disk failed
+    pub reached : x.failed ≡ true → (x.mounted.log.durable ≡ length list) ⊎ PartRose old (state d x.mounted.volume x.mounted.log)
+    pub replied : d.tells → IsConsistentImage s (page_of image) → HasReplied s (page_of image) now x.history.items x.mounted.volume
+    pub left : d.tells → d.tells_crashes → IsKeepableImage s image
         → IsLeftWith s image now x.history.items x.mounted.log.durable (last_of x.mounted.volume.past ++ last_of (d.past x.mounted.log.part))
+    -- where all pages are home, none of the volume's part is pending
+    pub rests : d.tells → d.tells_crashes → x.ending ≡ Home → IsKeepableImage s image → IsResting (last_of x.mounted.volume.past)
 
   -- One or the other, with no more marks than lines; and unless a call on the disk failed, none of them was refused for a fault.
-  pub record IsServed (scripts : List (Vec Line)) (now : Moment) (image : Image) (s : Super) (old : State) (marks : List (Vec Bool)) (x : Called D d) : Type 0 where
-    pub calls : IsUncalled x ⊎ IsCalled scripts now image s marks x
+  pub record IsServed (scripts : List (Vec Line)) (now : Moment) (is_left : Bool) (image : Image) (s : Super) (old : State) (marks : List (Vec Bool)) (x : Called D d) : Type 0 where
+    pub calls : IsUncalled x ⊎ IsCalled scripts now image s old marks x
     pub few : (length marks ≡ length scripts) × (marks_left (marks_in marks) ≤ lines_in (plan_of scripts))
     pub since : Since old (state d x.mounted.volume x.mounted.log)
     pub calm : (any_failed x.history.items ≡ false) ⊎ PartRose old (state d x.mounted.volume x.mounted.log)
+    pub home : x.ending ≡ Home → IsHomeFor is_left x.mounted.volume
+    -- pages may be dirty where the volume was to be left, or a call on the disk failed
+    pub left_for : x.ending ≡ Left → (is_left ≡ true) ⊎ PartRose old (state d x.mounted.volume x.mounted.log)

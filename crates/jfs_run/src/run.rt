@@ -1,37 +1,35 @@
 //! A run on the volume of a disk.
 
 ghost use Rattle.std.specs.Prelude.{◌≡◌, ◌≤◌, ◌<◌, ◌+◌, ◌-◌, ◌^◌, true, [], length, vec_capacity, IfOk, IfErr};
-ghost use Rattle.jfs_disk.specs.Crash.{last_of};
+ghost use Rattle.jfs_disk.specs.Crash.{last_of, seen_of};
 ghost use Rattle.jfs_disk.specs.Image.{page_of};
 ghost use Rattle.jfs_super.specs.Rules.{IsAccepted};
 ghost use Rattle.jfs_super.specs.Super.{super_of, FitsSuper};
 ghost use Rattle.jfs_super.specs.declared.fields.TheConstants.VolumeState.{CLEAN};
 ghost use Rattle.jfs_script.specs.History.{IsRisingFrom};
 ghost use Rattle.jfs_server.specs.shared.specs.Start.{IsJustMounted};
-ghost use Rattle.jfs_server.specs.shared.specs.kept_history.specs.Checked.{IsCheckedImage};
+ghost use Rattle.jfs_server.specs.shared.specs.kept_history.specs.Keepable.{IsKeepableImage};
 ghost use Rattle.jfs_server.specs.shared.specs.legal.specs.served.specs.mounted.specs.declared.mounted.MountError.{MountError};
 ghost use Rattle.jfs_server.specs.shared.specs.legal.specs.served.specs.volume_calls.specs.Together.{log_parts};
 ghost use Rattle.jfs_mount.specs.meaning.specs.Image.{IsConsistentImage};
-ghost use Rattle.jfs_run.specs.Left.{LeavesRun};
+ghost use Rattle.jfs_run.specs.Left.{LeavesRun, IsLeftUnmounted};
 ghost use Rattle.jfs_run.specs.Legal.{IsLegalRun, LeavesImage, IfUnmounted};
 ghost use Rattle.jfs_run.specs.Run.{RunIs, seen};
-ghost use Rattle.jfs_run.specs.Mounted.{state, MayCall};
 ghost use Rattle.jfs_run.specs.Serving.{HaveRoom};
 ghost use Rattle.jfs_run.specs.Tasks.{plan_of, lines_in, IsPlan};
-ghost use Rattle.jfs_run.specs.Ending.{RunSince, are_through, end_after, end_of, TakesBy};
+ghost use Rattle.jfs_run.specs.Ending.{RunSince, is_home, is_full, are_through, end_after, end_of, TakesBy};
 
 use crate::count::lines_in;
 use crate::ending::end;
-use crate::serving::{Called, make_durable, serve};
+use crate::serving::{Called, serve};
 use crate::telling::tell;
 use jfs_bits::Moment;
 use jfs_disk::{Disk, DiskError, Page};
 use jfs_io::Gate;
 use jfs_mount::BadMount;
 use jfs_plain::{Entry, Line};
-use jfs_server::MountedFrom;
 use jfs_server::unmount::{MountError, Mounted, mount};
-use jfs_server::volume_calls::PointText;
+use jfs_server::{Ending, MountedFrom};
 use jfs_super::Super;
 use std::alloc::{AllocError, Global};
 use std::marker::Brand;
@@ -63,18 +61,16 @@ pub struct Ran<D> {
     pub told: Vec<u64>,
 }
 
-/// What a run takes before the mount, so that later it can end for want of it only at a call: the superblock's page, the text of a syncpoint, room for the numbers that are told, and for each client room for a mark of
-/// each of its entries.
+/// What a run takes before the mount, so that later it can end for want of it only at a call: the superblock's page, room for the numbers that are told, and for each client room for a mark of each of its entries.
 #[derive(Drop)]
 struct Taken {
     superblock: Page,
-    point: PointText,
     told: Vec<u64>,
     marks: Vec<Vec<bool>>,
 }
 
 /// Mounts the volume of a disk in state 0, whose superblock is the one given, does the calls of the clients' scripts, all clients at once and each call at the same moment, the first script's by client 1 and so on, and
-/// ends the volume: it is unmounted, also where memory ran out, unless it is to be left or has halted.
+/// ends the volume: all its pages go home and it is unmounted, also where memory ran out, unless it is to be left or has halted.
 pub fn run_lines<D: Disk + Send, G: Gate + Sync, R: Threads + Wait + Sync>(
     rt: &R,
     alloc: Global,
@@ -95,8 +91,8 @@ pub fn run_lines<D: Disk + Send, G: Gate + Sync, R: Threads + Wait + Sync>(
     ensures legal { D.tells → IsConsistentImage s.now (page_of (D.image disk)) → IsLegalRun s.now (page_of (D.image disk)) now result.history.items }
     // What such a run leaves where it is done, and the volume wasn't to be left: an image of the tree behind the last reply.
     ensures leaves { D.tells → IfUnmounted result.end is_left (LeavesImage s.now (D.image disk) now result.history.items (D.image result.disk)) }
-    // Where it was to be left, also where the disk failed on the way, redo makes of whatever a crash leaves of the disk what the first entries leave, all told ones among them.
-    ensures left { D.tells → D.tells_crashes → is_left ≡ true → IsCheckedImage s.now (D.image disk) → LeavesRun s.now (D.image disk) now (record { history = result.history.items; told = result.told.items }) (last_of (D.past result.disk)) result.end }
+    // What a crash leaves of the disk, however the run ended, unless memory ran out and nothing was called. Redo makes of it what the first entries leave, all told ones among them; or it is the image of a volume that was unmounted. Where the mount failed, and nothing was pending before, it has the image's tree, or is redone to that.
+    ensures left { D.tells → D.tells_crashes → IsKeepableImage s.now (D.image disk) → LeavesRun (IsLeftUnmounted s.now (D.image disk) (last_of (D.past disk)) (last_of (D.past result.disk))) s.now (D.image disk) now is_left (record { history = result.history.items; told = result.told.items }) (last_of (D.past result.disk)) result.end }
     // so that the text of a history may be written
     ensures rising { IsRisingFrom 1 result.told.items }
     ensures pages { D.page_count result.disk ≡ D.page_count disk }
@@ -127,8 +123,8 @@ fn run_from<I: MountedFrom, D: Disk + Send, G: Gate + Sync, R: Threads + Wait + 
     ensures legal { D.tells → IsConsistentImage s.now (page_of (D.image disk)) → IsLegalRun s.now (page_of (D.image disk)) now result.history.items }
     // What such a run leaves where it is done, and the volume wasn't to be left: an image of the tree behind the last reply.
     ensures leaves { D.tells → IfUnmounted result.end is_left (LeavesImage s.now (D.image disk) now result.history.items (D.image result.disk)) }
-    // Where it was to be left, also where the disk failed on the way, redo makes of whatever a crash leaves of the disk what the first entries leave, all told ones among them.
-    ensures left { D.tells → D.tells_crashes → is_left ≡ true → IsCheckedImage s.now (D.image disk) → LeavesRun s.now (D.image disk) now (record { history = result.history.items; told = result.told.items }) (last_of (D.past result.disk)) result.end }
+    // What a crash leaves of the disk, however the run ended, unless memory ran out and nothing was called. Redo makes of it what the first entries leave, all told ones among them; or it is the image of a volume that was unmounted. Where the mount failed, and nothing was pending before, it has the image's tree, or is redone to that.
+    ensures left { D.tells → D.tells_crashes → IsKeepableImage s.now (D.image disk) → LeavesRun (IsLeftUnmounted s.now (D.image disk) (last_of (D.past disk)) (last_of (D.past result.disk))) s.now (D.image disk) now is_left (record { history = result.history.items; told = result.told.items }) (last_of (D.past result.disk)) result.end }
     // so that the text of a history may be written
     ensures rising { IsRisingFrom 1 result.told.items }
     ensures pages { D.page_count result.disk ≡ D.page_count disk }
@@ -157,15 +153,16 @@ fn take<D: Disk>(alloc: Global, disk: &mut D, scripts: &[Vec<Line>]) -> Result<T
     ensures pages { D.page_count disk.new ≡ D.page_count disk.old }
     ensures image { D.tells → D.image disk.new ≡ D.image disk.old }
     ensures past { D.tells_crashes → D.past disk.new ≡ D.past disk.old }
+    // A read gives what is pending.
+    ensures seen { D.tells_crashes → D.image disk.old ≡ seen_of (last_of (D.past disk.old)) }
 {
-    let Ok((point, told, marks)) = room(alloc, scripts) else {
+    let Ok((told, marks)) = room(alloc, scripts) else {
         return Err(RunEnd::Memory);
     };
     let mut superblock = Page::zeros();
     match disk.read(SUPERBLOCK, &mut superblock) {
         Ok(()) => Ok(Taken {
             superblock,
-            point,
             told,
             marks,
         }),
@@ -174,18 +171,14 @@ fn take<D: Disk>(alloc: Global, disk: &mut D, scripts: &[Vec<Line>]) -> Result<T
     }
 }
 
-/// The text of a syncpoint, and room for the numbers and the marks of all lines.
-fn room(
-    alloc: Global,
-    scripts: &[Vec<Line>],
-) -> Result<(PointText, Vec<u64>, Vec<Vec<bool>>), AllocError>
+/// Room for the numbers and the marks of all lines.
+fn room(alloc: Global, scripts: &[Vec<Line>]) -> Result<(Vec<u64>, Vec<Vec<bool>>), AllocError>
     requires few { lines_in (plan_of scripts.now) ≤ 65536 }
-    ensures { IfOk result (λ taken. (taken.1.items ≡ []) × (lines_in (plan_of scripts.now) ≤ vec_capacity taken.1) × HaveRoom scripts.now taken.2.items) }
+    ensures { IfOk result (λ taken. (taken.0.items ≡ []) × (lines_in (plan_of scripts.now) ≤ vec_capacity taken.0) × HaveRoom scripts.now taken.1.items) }
 {
-    let point = PointText::new(alloc)?;
     let told = Vec::with_capacity(alloc, lines_in(scripts))?;
     let marks = room_for_marks(alloc, scripts)?;
-    Ok((point, told, marks))
+    Ok((told, marks))
 }
 
 /// For each script room for a mark of each of its lines.
@@ -240,7 +233,6 @@ fn run_mounted<I: MountedFrom, D: Disk + Send, G: Gate + Sync, R: Threads + Wait
 ) -> Ran<D>
     requires plan { IsPlan (plan_of scripts.now) }
     requires mounted { IsJustMounted D.tells D.tells_crashes I.block I.image m.volume (log_parts D.Disk m.log) }
-    requires may { MayCall (state D.Disk m.volume m.log) }
     requires there { 8 < m.volume.count }
     requires room { m.volume.count + D.page_count m.log.part ≤ m.volume.room }
     requires before { m.volume.faults + D.fault_count m.log.part ≡ before }
@@ -249,14 +241,13 @@ fn run_mounted<I: MountedFrom, D: Disk + Send, G: Gate + Sync, R: Threads + Wait
     ensures ran { RunSince D.tells D.tells_crashes taken.superblock.0 (plan_of scripts.now) is_left before (seen D.Disk result.disk) (record { history = result.history.items; told = result.told.items }) result.end }
     ensures legal { D.tells → IsConsistentImage I.block (page_of I.image) → IsLegalRun I.block (page_of I.image) now result.history.items }
     ensures leaves { D.tells → super_of taken.superblock.0 ≡ record I.block { state = CLEAN } → IfUnmounted result.end is_left (LeavesImage I.block I.image now result.history.items (D.image result.disk)) }
-    ensures left { D.tells → D.tells_crashes → is_left ≡ true → IsCheckedImage I.block I.image → LeavesRun I.block I.image now (record { history = result.history.items; told = result.told.items }) (last_of (D.past result.disk)) result.end }
+    ensures left { D.tells → D.tells_crashes → IsKeepableImage I.block I.image → super_of taken.superblock.0 ≡ record I.block { state = CLEAN } → LeavesRun ⊥ I.block I.image now is_left (record { history = result.history.items; told = result.told.items }) (last_of (D.past result.disk)) result.end }
     ensures rising { IsRisingFrom 1 result.told.items }
     ensures pages { D.page_count result.disk ≡ m.volume.count + D.page_count m.log.part }
     ensures later { before ≤ D.fault_count result.disk }
 {
     let Taken {
         superblock,
-        mut point,
         mut told,
         mut marks,
     } = taken;
@@ -265,32 +256,51 @@ fn run_mounted<I: MountedFrom, D: Disk + Send, G: Gate + Sync, R: Threads + Wait
         history,
         is_whole,
         is_broken_off,
-        failed,
-    } = serve::<I, D, G, R>(rt, alloc, m, &mut marks, scripts, now, gate);
-    let mut m = mounted;
-    let is_made_up = make_durable(&mut m, failed);
+        failed: _,
+        ending,
+    } = serve::<I, D, G, R>(rt, alloc, m, &mut marks, scripts, now, is_left, gate);
     tell(
         history.as_slice(),
         marks.as_slice(),
-        m.log.durable(),
+        mounted.log.durable(),
         &mut told,
     );
-    let ended = end(m, &mut point, &superblock, is_left);
-    let is_through = are_through(is_whole, is_broken_off, is_made_up);
-    let end = end_after(is_through, ended.is_full, before, ended.disk.faults());
+    let disk = end(mounted, &superblock, is_home(ending));
+    let is_through = are_through(is_whole, is_broken_off);
+    let end = end_after(is_through, is_full(ending), before, disk.faults());
     Ran {
-        disk: ended.disk,
+        disk,
         end,
         history,
         told,
     }
 }
 
-/// Whether each line has its entry, the history goes on, and nothing had to be made up for.
-fn are_through(is_whole: bool, is_broken_off: bool, is_made_up: bool) -> bool
-    ensures { result ≡ are_through is_whole is_broken_off is_made_up }
+/// Whether all pages are home.
+fn is_home(ending: Ending) -> bool
+    ensures { result ≡ is_home ending }
 {
-    is_whole && !is_broken_off && !is_made_up
+    match ending {
+        Ending::Home => true,
+        Ending::Left | Ending::Full => false,
+    }
+}
+
+/// Whether the log's pages have no more numbers.
+fn is_full(ending: Ending) -> bool
+    ensures { result ≡ is_full ending }
+{
+    match ending {
+        Ending::Full => true,
+        Ending::Home | Ending::Left => false,
+    }
+}
+
+/// Whether each line has its entry, and the history goes on.
+fn are_through(is_whole: bool, is_broken_off: bool) -> bool
+    ensures { result ≡ are_through is_whole is_broken_off }
+{
+    is_whole && !is_broken_off
 }
 
 /// How a run ended whose volume was mounted. A count at its last value counts as one that rose; a log whose pages have no more numbers counts as want of memory.

@@ -1,12 +1,10 @@
 //! The calls of a run, by a server of the mounted volume.
 
-ghost use Rattle.std.specs.Prelude.{◌≡◌, ◌⊎◌, ◌<◌, ◌+◌, ◌^◌, ℕ, List, true, false};
+ghost use Rattle.std.specs.Prelude.{◌≡◌, ◌⊎◌, ◌<◌, ◌+◌, ◌^◌};
 ghost use Rattle.jfs_server.specs.shared.specs.Start.{IsJustMounted};
-ghost use Rattle.jfs_server.specs.shared.specs.legal.specs.History.{GoOn};
-ghost use Rattle.jfs_server.specs.shared.specs.legal.specs.served.specs.halves.specs.Parts.{Parts};
-ghost use Rattle.jfs_server.specs.shared.specs.legal.specs.served.specs.Legal.{Timed};
 ghost use Rattle.jfs_server.specs.shared.specs.legal.specs.served.specs.volume_calls.specs.Together.{log_parts};
-ghost use Rattle.jfs_run.specs.Mounted.{state, MayCall, PartRose, Keeps, IsMadeDurable};
+ghost use Rattle.jfs_run.specs.Ending.{last_for, unbegun};
+ghost use Rattle.jfs_run.specs.Mounted.{state};
 ghost use Rattle.jfs_run.specs.Serving.{HaveRoom, IsUncalled, IsHandedOut, IsServed};
 ghost use Rattle.jfs_run.specs.Tasks.{plan_of, IsPlan};
 
@@ -17,8 +15,7 @@ use jfs_disk::Disk;
 use jfs_io::Gate;
 use jfs_plain::{Entry, Line};
 use jfs_server::unmount::Mounted;
-use jfs_server::volume_calls::commit;
-use jfs_server::{MountedFrom, Server, Stopped};
+use jfs_server::{Ending, Last, MountedFrom, Server, Stopped};
 use std::alloc::Global;
 use std::sync::Wait;
 use std::thread::Threads;
@@ -31,14 +28,16 @@ pub struct Called<D: Disk> {
     pub history: Vec<Entry>,
     /// Whether each line has its entry.
     pub is_whole: bool,
-    /// Whether memory ran out for one, so that nothing is said of the tree behind the entries.
+    /// Whether memory ran out for one, or for the clients: then the history is over, and no call was done behind it.
     pub is_broken_off: bool,
     /// Whether a client was told that an entry couldn't be made durable.
     pub failed: bool,
+    /// What became of the volume's pages.
+    pub ending: Ending,
 }
 
 /// Does the lines of all scripts at once on a volume that was just mounted, the first script's by client 1 and so on, all at one moment. Of each client `marks` has then whether each of its entries had to be made
-/// durable. Where memory lacks for the clients, nothing is called.
+/// durable. Behind them all pages go home, unless the volume is to be left. Where memory lacks for the clients, nothing is called.
 pub fn serve<I: MountedFrom, D: Disk + Send, G: Gate + Sync, R: Threads + Wait + Sync>(
     rt: &R,
     alloc: Global,
@@ -46,17 +45,17 @@ pub fn serve<I: MountedFrom, D: Disk + Send, G: Gate + Sync, R: Threads + Wait +
     marks: &mut Vec<Vec<bool>>,
     scripts: &[Vec<Line>],
     now: Moment,
+    is_left: bool,
     gate: &G,
 ) -> Called<D>
     requires plan { IsPlan (plan_of scripts.now) }
     requires mounted { IsJustMounted D.tells D.tells_crashes I.block I.image m.volume (log_parts D.Disk m.log) }
-    requires may { MayCall (state D.Disk m.volume m.log) }
     requires few { m.volume.faults + D.fault_count m.log.part < 2 ^ 64 }
     requires room { HaveRoom scripts.now marks.old.items }
-    ensures served { IsServed D.Disk scripts.now now I.image I.block (state D.Disk m.volume m.log) marks.new.items result }
+    ensures served { IsServed D.Disk scripts.now now is_left I.image I.block (state D.Disk m.volume m.log) marks.new.items result }
 {
     let Ok(room) = Vec::with_capacity(alloc, scripts.len()) else {
-        return uncalled(alloc, m);
+        return uncalled(alloc, m, unbegun(is_left));
     };
     match Server::start_from::<I>(alloc, m, scripts.len() as u32) {
         Ok((server, passes)) => {
@@ -65,7 +64,7 @@ pub fn serve<I: MountedFrom, D: Disk + Send, G: Gate + Sync, R: Threads + Wait +
             );
             handed_out(
                 alloc,
-                server.stop(passes),
+                server.stop(passes, last_for(is_left, failed)),
                 marks.as_slice(),
                 scripts,
                 failed,
@@ -73,15 +72,36 @@ pub fn serve<I: MountedFrom, D: Disk + Send, G: Gate + Sync, R: Threads + Wait +
         }
         Err(m) => {
             room.destroy_empty();
-            uncalled(alloc, m)
+            uncalled(alloc, m, unbegun(is_left))
         }
     }
 }
 
-/// A volume on which nothing was called.
-fn uncalled<D: Disk>(alloc: Global, mounted: Mounted<D>) -> Called<D>
+/// What a run's server does last. Where the volume is to be left, and a client was told that an entry couldn't be made durable, all entries are made so while the volume runs. That never comes, since such a log halts the volume; but no clause says it.
+fn last_for(is_left: bool, failed: bool) -> Last
+    ensures { result ≡ last_for is_left failed }
+{
+    if !is_left {
+        Last::Syncpoint
+    } else if failed {
+        Last::Commit
+    } else {
+        Last::Nothing
+    }
+}
+
+/// What became of the pages of a volume that was just mounted: they are all home, unless it is to be left.
+fn unbegun(is_left: bool) -> Ending
+    ensures { result ≡ unbegun is_left }
+{
+    if is_left { Ending::Left } else { Ending::Home }
+}
+
+/// A volume on which nothing was called, with what became of its pages.
+fn uncalled<D: Disk>(alloc: Global, mounted: Mounted<D>, ending: Ending) -> Called<D>
     ensures uncalled { IsUncalled D.Disk result }
     ensures same { result.mounted ≡ mounted }
+    ensures ending { result.ending ≡ ending }
 {
     Called {
         mounted,
@@ -89,6 +109,7 @@ fn uncalled<D: Disk>(alloc: Global, mounted: Mounted<D>) -> Called<D>
         is_whole: false,
         is_broken_off: true,
         failed: false,
+        ending,
     }
 }
 
@@ -101,15 +122,17 @@ fn handed_out<D: Disk>(
     failed: bool,
 ) -> Called<D>
     ensures same { result.mounted ≡ stopped.mounted }
+    ensures ending { result.ending ≡ stopped.ending }
     ensures handed_out { IsUncalled D.Disk result ⊎ IsHandedOut D.Disk scripts.now failed marks.now stopped result }
 {
     let Stopped {
         mounted,
         history,
         is_broken_off,
+        ending,
     } = stopped;
     if !are_of_clients(history.as_slice(), scripts.len()) {
-        return uncalled(alloc, mounted);
+        return uncalled(alloc, mounted, ending);
     }
     Called {
         mounted,
@@ -117,26 +140,6 @@ fn handed_out<D: Disk>(
         is_whole: are_whole(scripts, marks),
         is_broken_off,
         failed,
-    }
-}
-
-/// Where a client was told that an entry couldn't be made durable, and the volume runs, all entries are made durable now. Tells whether that was so: a log fails by a fault that halts the volume, so it never is.
-pub fn make_durable<D: Disk>(m: &mut Mounted<D>, failed: bool) -> bool
-    requires may { MayCall (state D.Disk m.old.volume m.old.log) }
-    ensures keeps { Keeps (state D.Disk m.old.volume m.old.log) (state D.Disk m.new.volume m.new.log) }
-    ensures halted { (m.new.volume.halted ≡ m.old.volume.halted) ⊎ PartRose (state D.Disk m.old.volume m.old.log) (state D.Disk m.new.volume m.new.log) }
-    ensures durable { IsMadeDurable failed (state D.Disk m.old.volume m.old.log) (state D.Disk m.new.volume m.new.log) }
-    ensures appended { m.new.volume.appended ≡ m.old.volume.appended }
-    ensures only { result ≡ true → failed ≡ true }
-    ensures still { result ≡ false → state D.Disk m.new.volume m.new.log ≡ state D.Disk m.old.volume m.old.log }
-    ensures legal { D.tells → (area : ℕ → ℕ) (log_pages : ℕ) (start : Parts) (es : List Timed) → GoOn area log_pages start es m.old.volume → GoOn area log_pages start es m.new.volume }
-{
-    if failed && m.volume.halted().is_none() {
-        match commit(&mut m.volume, &mut m.log) {
-            Ok(()) => true,
-            Err(_) => true,
-        }
-    } else {
-        false
+        ending,
     }
 }

@@ -1,8 +1,7 @@
 -- Clauses of a disk that may tell its contents, where it does.
 use Rattle.std.specs.Bool.{⊤}
-use Rattle.std.proofs.Common.{◌≡◌, ℕ, List, length, ◌⊎◌, inl, inr}
+use Rattle.std.proofs.Common.{ℕ, List, length, ◌⊎◌, inl, inr}
 use Rattle.jfs_disk.specs.Image.{Image, page_of}
-use Rattle.jfs_disk.specs.Crash.{DiskState}
 use Rattle.jfs_ranges.specs.declared.edit.Edit.{Edit}
 use Rattle.jfs_super.specs.declared.fields.Super.{Super}
 use Rattle.jfs_call.specs.volume.specs.Asked.{IsAskedOf}
@@ -16,7 +15,6 @@ use Rattle.jfs_call.specs.volume_calls.specs.Written.{KeepsPages}
 use Rattle.jfs_call.specs.halves.specs.Log.{LogParts}
 use Rattle.jfs_call.specs.halves.specs.Parts.{Parts}
 use Rattle.jfs_call.specs.plain.specs.declared.call.Entry.{Entry}
-use Rattle.jfs_unmount.specs.Unmount.{Pointed, Ends}
 use Rattle.jfs_unmount.specs.mounted.specs.Mount.{IsMountOf}
 use Rattle.jfs_served.specs.Step.{IsAsked}
 
@@ -91,28 +89,4 @@ module _ (tells crashes : Type 0) (told : tells) where
     has_maps = m.has_maps;
     found = λ t. m.found told;
     keeps = λ t. m.keeps told;
-  }
-
-  told_point : (old : Parts) (log : LogParts) → Pointed tells crashes old log → Pointed ⊤ ⊥ old log
-  told_point old log p = record {
-    volume = p.volume;
-    side = p.side;
-    pointed = λ seen asked t c. p.pointed seen asked (λ e. told) (λ e. absurd (c e));
-    clean = p.clean;
-    together = p.together;
-    settles = p.settles;
-    shown = told_shown old p.volume p.shown;
-    maps = λ t. p.maps told;
-  }
-
-  pub told_ends : (superblock : List ℕ) (old : Parts) (log : LogParts) (image : Image) (past : List DiskState) → Ends tells crashes superblock old log image past → Ends ⊤ ⊥ superblock old log image past
-  unfolding told_point
-  told_ends superblock old log image past e = record {
-    point = told_point old log e.point;
-    image_is = λ t. e.image_is told;
-    superblock_is = λ t. e.superblock_is told;
-    pages_are = λ t. e.pages_are told;
-    low = e.low;
-    rests = λ c. absurd c;
-    state = λ c. absurd c;
   }

@@ -1,8 +1,7 @@
 -- What calls leave of a mounted volume's tree, on a disk that tells its contents.
-use Rattle.std.specs.Prelude.{◌≡◌, ◌≢◌, ◌⊎◌, ◌≤◌, ◌++◌, ◌∷◌, [], ℕ, true, List, Some, ⊤}
+use Rattle.std.specs.Prelude.{◌≡◌, ◌≢◌, ◌⊎◌, ◌<◌, ◌≤◌, ◌++◌, ◌∷◌, [], ℕ, true, List, Some, ⊤}
 use Rattle.jfs_bits.specs.declared.descriptor.Moment.{Moment}
 use Rattle.jfs_disk.specs.Image.{Image, page_of}
-use Rattle.jfs_disk.specs.Crash.{DiskState}
 use Rattle.jfs_disk.specs.declared.disk.Fault.{Fault}
 use Rattle.jfs_disk.specs.declared.disk.Part.TheVariants.{High}
 use Rattle.jfs_super.specs.Rules.{blocks_of}
@@ -34,7 +33,7 @@ use Rattle.jfs_call.specs.plain.specs.declared.reply.Reply.TheVariants.{Done, Re
 use Rattle.jfs_shown.specs.Files.{KnowsFiles}
 use Rattle.jfs_shown.specs.kinds.specs.Images.{HasWholeFiles}
 use Rattle.jfs_shown.specs.meaning.specs.Readers.{readers}
-use Rattle.jfs_unmount.specs.Unmount.{Ends}
+use Rattle.jfs_unmount.specs.Unmount.{IsAllHome}
 use Rattle.jfs_unmount.specs.mounted.specs.Mount.{IsMountOf}
 use Rattle.jfs_served.specs.Holds.{tree_at, room_at, HoldsTree, MayServe, KeepsFiles, KeepsTree, StaysServing}
 use Rattle.jfs_served.specs.Step.{IsAsked, IsAnswer, TakesStep, Leaves}
@@ -127,10 +126,10 @@ pub record IsImageOf (s : Super) (area : ℕ → ℕ) (p : Parts) (page : ℕ �
   pub tree : Same (tree_at area p) (tree_of s page)
   pub room : meaning.room_of s page ≡ room_at area s.logpxd.len p
 
--- An unmount leaves such an image of a volume that holds a tree, where all is known of its maps' files and the superblock's page is put back as a clean volume's.
+-- So they are of a volume that holds a tree, where all is known of its maps' files: all its pages are home, and the disk has them, but for a superblock of a clean volume.
 abbrev pub UnmountedLaw : Type 0
-UnmountedLaw = (s : Super) (area : ℕ → ℕ) (superblock : List ℕ) (p : Parts) (log : LogParts) (image : Image) (past : List DiskState)
-    → HoldsTree area s.logpxd.len p → KnowsFiles s (page_of p.view) area p.map p.inodes p.files → Ends ⊤ ⊥ superblock p log image past → super_of superblock ≡ record s { state = CLEAN } → IsImageOf s area p (page_of image)
+UnmountedLaw = (s : Super) (area : ℕ → ℕ) (p : Parts) (image : Image) → HoldsTree area s.logpxd.len p → KnowsFiles s (page_of p.view) area p.map p.inodes p.files → IsAllHome p
+    → super_of (page_of image 8) ≡ record s { state = CLEAN } → ((b : ℕ) → b ≢ 8 → b < p.blocks → page_of image b ≡ page_of p.view b) → IsImageOf s area p (page_of image)
 
 -- ---- all of it
 

@@ -78,7 +78,7 @@ pub fn mounted_volumes_hold_the_tree()
     ensures { MountedLaw }
 {}
 
-/// An unmount leaves a clean and consistent image with the tree that the volume held.
+/// Pages that are all home are a clean and consistent image with the tree that the volume holds, behind a superblock of a clean volume.
 pub fn unmounted_volumes_leave_their_image()
     ensures { UnmountedLaw }
 {}

@@ -14,7 +14,7 @@ use Rattle.jfs_legal.specs.served.specs.call.specs.declared.outcome.Outcome.TheV
 use Rattle.jfs_legal.specs.served.specs.files.specs.Written.{renames}
 use Rattle.jfs_legal.specs.served.specs.halves.specs.Parts.{Parts}
 use Rattle.jfs_serving.specs.Calls as serving
-use Rattle.jfs_serving.specs.Calls.{Asked, asked, is_rename}
+use Rattle.jfs_serving.specs.Calls.{asked, is_rename}
 use Rattle.jfs_shared.specs.Calls as shared
 use Rattle.jfs_shared.specs.declared.shared.SharedVolume.{SharedVolume}
 use Rattle.jfs_shared.specs.Shared.{standing as shared_standing}

@@ -12,16 +12,10 @@ pub use client::Client;
 pub use running::run_scripts;
 pub use served::ServedVolume;
 pub use server::{MountedFrom, Server, ServerPass};
-pub use stopping::Stopped;
+pub use stopping::{Ending, Last, Stopped};
 
 pub mod unmount {
     //! Passed on from `jfs_legal`.
 
     pub use jfs_legal::unmount::{MountError, Mounted, leave, mount, unmount};
-}
-
-pub mod volume_calls {
-    //! Passed on from `jfs_legal`.
-
-    pub use jfs_legal::volume_calls::{PointText, commit};
 }

@@ -28,9 +28,8 @@ use Rattle.jfs_legal.specs.served.specs.shown.specs.meaning.specs.Image.{IsConsi
 use Rattle.jfs_legal.specs.served.proofs.Told.{told_mount}
 use Rattle.jfs_legal.proofs.Going.{begin_law}
 use Rattle.jfs_legal.proofs.Known.{laws}
-use Rattle.jfs_kept_history.specs.Checked.{IsCheckedImage}
+use Rattle.jfs_kept_history.specs.Keepable.{IsKeepableImage}
 use Rattle.jfs_kept_history.proofs.Begun.{begin_law as kept_begins}
-use Rattle.jfs_kept_history.proofs.Checked.{consistent_image}
 use Rattle.jfs_shared.specs.Shared.{logs_of, HasText, IsShared, IsServed, IsKeptServed}
 use Rattle.jfs_shared.specs.Faults.{any_failed}
 use Rattle.jfs_shared.specs.Base.{log_start_of}
@@ -93,9 +92,9 @@ module _ (tells crashes : Type 0) (s : Super) (image : Image) (volume : Parts) (
       let held = laws.mounted s image volume log (told_mount tells crashes t s image volume log m.mount) within consistent in
       record { start = volume; holds = held; runs = m.runs; goes_on = begin_law (volume_of s (page_of image)).area s.logpxd.len volume held.serves }
 
-  kept : tells → crashes → IsCheckedImage s image → IsKeptServed s image [] [] volume
+  kept : tells → crashes → IsKeepableImage s image → IsKeptServed s image false [] [] volume
   kept t c checked = record {
-    served = served t (consistent_image s image checked);
+    served = served t (checked.keepable.consistent);
     since = kept_begins tells crashes t c s image volume log m.mount checked;
     ring = text.ring_is;
     blocks = m.blocks;
@@ -117,7 +116,7 @@ module _ (tells crashes : Type 0) (s : Super) (image : Image) (volume : Parts) (
     disk = record { pages = refl; room = refl; few = few; faults = inl refl; calm = inl (ap any_failed stands.entries); runs = inl m.runs; unmarked = λ _. refl };
     size = let same = ap (λ map. length map.states) m.mount.has_maps.0 in let number = m.mount.rest.number in omega (arith, same, number, within);
     served = λ t. subst (λ (k : Super). IsConsistentImage k (page_of image) → IsServed k (page_of image) false [] volume) (sym (m.spelled t)) (served t);
-    kept = λ t c whole. subst (λ (k : Super). IsCheckedImage k image → IsKeptServed k image [] [] volume) (sym (m.spelled t)) (kept t c);
+    kept = λ t c. subst (λ (k : Super). IsKeepableImage k image → IsKeptServed k image false [] [] volume) (sym (m.spelled t)) (kept t c);
   }
 
   -- ---- the log

@@ -47,10 +47,10 @@ module _ {D : Type 0} (d : Ghosts D) (x : SharedVolume D) (client line : ℕ) (r
     λ base list taken told points known s. replied_stands d.tells d.tells_crashes base list taken told points known x.points x.is_broken_off x.volume s client line request now new reply number waits over fits few a does
         (stepped d.tells d.tells_crashes (record { client = client; line = line }) request now x.volume new (Replied reply number waits) does),
   )
-  call_is NeedsLog not over fits few a does = λ base list taken told points known s. asked_stands d.tells d.tells_crashes base list taken told points known x.points x.is_broken_off x.volume s client line request now new fits few a does
+  call_is NeedsLog not over fits few a does = λ base list taken told points known s. asked_stands d.tells d.tells_crashes base list taken told points known x.points x.is_broken_off x.volume s client line request now new over fits few a does
       (stepped d.tells d.tells_crashes (record { client = client; line = line }) request now x.volume new NeedsLog does)
   call_is NoMemory not over fits few a does = absurd (not refl)
 
-  pub lacked_is : IsAnswered client line request x.volume new NoMemory → Does d.tells d.tells_crashes (record { client = client; line = line }) request now x.volume new NoMemory → Stays (standing d) x (record x { volume = new; is_broken_off = true })
-  lacked_is a does base list taken told points known s = lacked_stands d.tells d.tells_crashes base list taken told points known x.points x.is_broken_off x.volume s client line request now new a
+  pub lacked_is : x.is_broken_off ≡ false → FitsCall request.call → x.volume.appended + 1 < 2 ^ 32 → IsAnswered client line request x.volume new NoMemory → Does d.tells d.tells_crashes (record { client = client; line = line }) request now x.volume new NoMemory → Stays (standing d) x (record x { volume = new; is_broken_off = true })
+  lacked_is over fits few a does base list taken told points known s = lacked_stands d.tells d.tells_crashes base list taken told points known x.points x.is_broken_off x.volume s client line request now new over fits few a does
       (stepped d.tells d.tells_crashes (record { client = client; line = line }) request now x.volume new NoMemory does)

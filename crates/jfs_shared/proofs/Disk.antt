@@ -205,7 +205,8 @@ module _ (client line : ℕ) (request : Request) (old new : Parts) where
 pub home_disk : (m : MountStart) (points : List ℕ) (old new : Parts) → IsOfDisk m points old → IsSettled old new → new.faults ≡ old.faults → new.halted ≡ old.halted → IsOfDisk m points new
 home_disk m points old new h e faults halted = same_disk m points old h new (record { count = ap (λ (p : Parts). p.count) e; room = ap (λ (p : Parts). p.room) e; faults = faults; entries = ap (λ (p : Parts). p.entries) e; halted = halted })
 
-none_by : (fault : Fault) (halted : Option Fault) → halted_by fault halted ≡ None → ⊥
+-- a volume that halts doesn't run
+pub none_by : (fault : Fault) (halted : Option Fault) → halted_by fault halted ≡ None → ⊥
 none_by fault None e = some_none fault e
 none_by fault (Some first) e = some_none first e
 

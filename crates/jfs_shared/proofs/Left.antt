@@ -1,5 +1,5 @@
--- Whatever a crash leaves of a volume and its log, whether or not the log has halted, is redone to the volume's history.
-use Rattle.std.proofs.Common.{◌≡◌, ◌⊎◌, ◌≤◌, ◌<◌, ◌+◌, ◌-◌, ◌^◌, ◌∷◌, [], ◌++◌, ℕ, suc, List, length, take, drop, false, Option, Some, None, refl, sym, ap, subst, ◌∙◌, inl, inr, arith, append_assoc}
+-- Whatever a crash leaves of a volume and its log, whether or not the log has halted or the history broke off, is redone to the volume's history.
+use Rattle.std.proofs.Common.{◌≡◌, ◌⊎◌, ◌≤◌, ◌<◌, ◌+◌, ◌-◌, ◌^◌, ◌∷◌, [], ◌++◌, ℕ, suc, List, length, take, drop, Option, Some, None, refl, sym, ap, subst, ◌∙◌, inl, inr, arith, append_assoc}
 use Rattle.std.proofs.lemmas.Bool.{cases_lt}
 use Rattle.std.proofs.lemmas.List.{length-map, take-map, drop-map, take-take, get_or_past}
 use Rattle.std.proofs.Math.Seq.{take-append_seam}
@@ -20,14 +20,13 @@ use Rattle.jfs_groups.specs.Log.{IsRunning, IsLost, data_of}
 use Rattle.jfs_groups.specs.Text.{AreCounts, FrontOf, HoldsText, item_of, items_from, items_with, text_with}
 use Rattle.jfs_groups.specs.declared.log.SharedLog.{SharedLog}
 use Rattle.jfs_mount_disk.proofs.Left.{crash_low, crash_high}
-use Rattle.jfs_legal.proofs.Going.{legal_law}
 use Rattle.jfs_legal.specs.served.specs.crash_core.specs.Core.{Block}
 use Rattle.jfs_legal.specs.served.specs.shown.specs.meaning.specs.Image.{volume_of}
-use Rattle.jfs_kept_history.specs.Checked.{IsCheckedImage}
+use Rattle.jfs_kept_history.specs.Keepable.{IsKeepableImage}
 use Rattle.jfs_kept_history.specs.Crash.{IsRedoneToHistory}
 use Rattle.jfs_kept_history.specs.Kept.{Lasting, noted_in}
 use Rattle.jfs_kept_history.specs.Rested.{HasBothParts, HasRested, HasLost}
-use Rattle.jfs_kept_history.proofs.Checked.{uuid_size}
+use Rattle.jfs_kept_history.proofs.Keepable.{uuid_size}
 use Rattle.jfs_kept_history.proofs.Rested.{rested_law}
 use Rattle.jfs_kept_history.proofs.Lost.{lost_law}
 use Rattle.jfs_shared.specs.Base.{start_of, image_of}
@@ -37,6 +36,7 @@ use Rattle.jfs_shared.specs.Left.{IsLeft}
 use Rattle.jfs_shared.specs.Shared.{logs_of, timed_in, lasting, lasting_in, counts_in, IsKeptServed, standing, log_standing}
 use Rattle.jfs_shared.specs.declared.shared.SharedVolume.{SharedVolume}
 use Rattle.jfs_shared.proofs.Points.{all_counts, counts_of}
+use Rattle.jfs_shared.proofs.Served.{history_law}
 use Rattle.jfs_shared.proofs.Together.{front}
 
 -- ---- the same text of entries as what keeps a volume has them
@@ -71,7 +71,7 @@ page_left state left n crash = by (cases_lt n (length state))
     by (inr past) = subst {A = PageHistory × List ℕ} (λ z. IsCrashPage z.0 z.1) (λ i. (sym (get_or_past state n no_page past) i, sym (get_or_past left n [] (omega (arith, past, crash.number))) i)) no_page_left
 
 module _ {D : Type 0} (d : Ghosts D) (n : Seen) (x : SharedVolume D) (y : SharedLog D d) (k : AreOf (standing d) (log_standing d) n x y) (reads : d.tells_crashes → d.image y.side.part ≡ seen_of (last_of (d.past y.side.part)))
-    (t : d.tells) (c : d.tells_crashes) (whole : x.is_broken_off ≡ false) (checked : IsCheckedImage (super_of (page_of (image_of n.base) 8)) (image_of n.base)) where
+    (t : d.tells) (c : d.tells_crashes) (checked : IsKeepableImage (super_of (page_of (image_of n.base) 8)) (image_of n.base)) where
   abbrev image : Image
   image = image_of n.base
 
@@ -84,8 +84,8 @@ module _ {D : Type 0} (d : Ghosts D) (n : Seen) (x : SharedVolume D) (y : Shared
   abbrev high : DiskState
   high = last_of (d.past y.side.part)
 
-  kept : IsKeptServed s image n.list n.points x.volume
-  kept = k.volume.kept t c whole checked
+  kept : IsKeptServed s image x.is_broken_off n.list n.points x.volume
+  kept = k.volume.kept t c checked
 
   ring_is : (start_of n.base).log.ring ≡ s.logpxd.len - 2
   ring_is = sym k.volume.text.ring_is ∙ kept.ring
@@ -210,4 +210,4 @@ module _ {D : Type 0} (d : Ghosts D) (n : Seen) (x : SharedVolume D) (y : Shared
         by (Some fault) halts = once_it_halted fault halts
 
   pub left_is : IsLeft s image n.list n.durable (low ++ high)
-  left_is = record { start = kept.served.start; holds = kept.served.holds; runs = kept.served.runs; legal = legal_law (volume_of s (page_of image)).area s.logpxd.len kept.served.start (timed_in n.list) x.volume kept.served.goes_on; redone = redone }
+  left_is = record { start = kept.served.start; holds = kept.served.holds; runs = kept.served.runs; legal = history_law x.is_broken_off (volume_of s (page_of image)).area s.logpxd.len kept.served.start (timed_in n.list) x.volume kept.served.goes_on; redone = redone }

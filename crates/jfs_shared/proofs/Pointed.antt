@@ -1,18 +1,25 @@
 -- A syncpoint behind a commit: what volume and log stand for on the way.
-use Rattle.std.proofs.Common.{◌≡◌, ◌≤◌, ℕ, ◌+◌, List, [], length, None, Result, Ok, Err, refl, inl, sym, ap, ◌∙◌, arith, append-nil}
+use Rattle.std.specs.Prelude.{OnOk}
+use Rattle.std.proofs.Common.{◌≡◌, ◌≤◌, ℕ, ◌+◌, List, [], length, None, Result, Ok, Err, refl, inl, sym, ap, subst, ◌∙◌, arith, append-nil}
 use Rattle.jfs_bits.specs.Count.{Rose}
+use Rattle.jfs_disk.specs.Crash.{DiskState, last_of}
+use Rattle.jfs_disk.specs.Moment.{IsResting}
 use Rattle.jfs_disk.specs.declared.disk.Disk.{Ghosts}
 use Rattle.jfs_disk.specs.declared.disk.Fault.{Fault}
 use Rattle.jfs_groups.specs.Points.{syncs}
 use Rattle.jfs_groups.specs.declared.log.SharedLog.{SharedLog}
 use Rattle.jfs_call.specs.halves.specs.Parts.{Parts}
 use Rattle.jfs_call.specs.volume.specs.Settles.{Settles, StaysShown}
+use Rattle.jfs_call.specs.volume.specs.map_files.specs.declared.map_file.MapFiles.{MapFiles}
+use Rattle.jfs_call.specs.volume.specs.pages.specs.Dirty.{dirty_of}
+use Rattle.jfs_call.specs.volume.specs.pages.specs.declared.dirty.Dirty.{Dirty}
+use Rattle.jfs_legal.specs.served.specs.unmount.specs.Unmount.{IsAllHome}
 use Rattle.jfs_volume_calls.specs.Written.{LeavesMaps}
 use Rattle.jfs_legal.specs.served.specs.crash_core.specs.Step.{halted_by}
 use Rattle.jfs_shared.specs.Base.{start_of}
 use Rattle.jfs_shared.specs.Both.{Seen, AreOf, Lost, Committed, Pointed, PartlyPointed, PointIs}
 use Rattle.jfs_shared.specs.Home.{IsSettled}
-use Rattle.jfs_shared.specs.Settled.{KeepsHistory, SettlesHistory, MaySettle, PointBehind}
+use Rattle.jfs_shared.specs.Settled.{KeepsHistory, SettlesHistory, MaySettle, PointBehind, RestsBehind, LeavesPages}
 use Rattle.jfs_shared.specs.Shared.{standing, log_standing}
 use Rattle.jfs_shared.specs.declared.shared.SharedVolume.{SharedVolume}
 use Rattle.jfs_shared.proofs.Stands.{home_stands, home_settles as settles_home, stopped_stands}
@@ -55,8 +62,8 @@ module _ {D : Type 0} (d : Ghosts D) (x : SharedVolume D) (y : SharedLog D d) (r
     }
 
     -- a SYNCPT may be made then
-    pub home_settles : Settles x'.volume new → StaysShown d.tells x'.volume new → (d.tells → LeavesMaps x'.volume new) → SettlesHistory d.tells d.tells_crashes x'.volume new → MaySettle d.tells d.tells_crashes (settled n) (record x' { volume = new })
-    home_settles settles shown maps keeps = settles_home d.tells d.tells_crashes n.base n.list (length n.list) (length n.list) n.points n.known x'.points x'.is_broken_off x'.volume c.0 new is settles shown maps keeps
+    pub home_settles : new.halted ≡ x'.volume.halted → Settles x'.volume new → StaysShown d.tells x'.volume new → (d.tells → LeavesMaps x'.volume new) → SettlesHistory d.tells d.tells_crashes x'.volume new → MaySettle d.tells d.tells_crashes (settled n) (record x' { volume = new })
+    home_settles halted settles shown maps keeps = settles_home d.tells d.tells_crashes n.base n.list (length n.list) (length n.list) n.points n.known x'.points x'.is_broken_off x'.volume c.0 new is halted settles shown maps keeps
 
     -- one of them couldn't
     pub not_home : (fault : Fault) → Rose x'.volume.faults new.faults → new.halted ≡ halted_by fault x'.volume.halted → Settles x'.volume new → StaysShown d.tells x'.volume new → (d.tells → LeavesMaps x'.volume new) → KeepsHistory d.tells d.tells_crashes x'.volume new → PartlyPointed (standing d) (log_standing d) n (record x' { volume = new }) y'
@@ -118,3 +125,18 @@ module _ {D : Type 0} (d : Ghosts D) (x : SharedVolume D) (y : SharedLog D d) (r
 
 pub committed_told : {D : Type 0} (d : Ghosts D) (n : Seen) (x : SharedVolume D) (y : SharedLog D d) → Committed (standing d) (log_standing d) n x y → x.volume.told ≡ x.volume.appended
 committed_told d n x y c = c.0.told_is ∙ sym c.0.appended
+
+-- ---- pages behind a SYNCPT
+
+pub home_behind : (result : Result (Unit {0}) Fault) (mid last : Parts) → IsAllHome mid → OnOk result (LeavesPages mid last) → OnOk result (IsAllHome last)
+home_behind (Ok done) mid last home same = record {
+  clean = λ p. ap (λ (ds : List Dirty). dirty_of ds p) same.dirty ∙ home.clean p;
+  block_map = ap (λ (f : MapFiles). f.blocks.stale) same.files ∙ home.block_map;
+  inode_map = ap (λ (f : MapFiles). f.inodes.stale) same.files ∙ home.inode_map;
+}
+home_behind (Err fault) mid last home same = tt
+
+pub rests_behind : {D : Type 0} (d : Ghosts D) (x : SharedVolume D) (y : SharedLog D d) (result : Result (Unit {0}) Fault) (mid : Parts) (x' last : SharedVolume D) → OnOk result (LeavesPages mid last.volume)
+    → ((n : Seen) → AreOf (standing d) (log_standing d) n x y → MaySettle d.tells d.tells_crashes (settled n) (record x' { volume = mid })) → OnOk result (RestsBehind d x y last)
+rests_behind d x y (Ok done) mid x' last same settles = λ n k t c checked. subst (λ (past : List DiskState). IsResting (last_of past)) (sym same.past) (settles n k t c checked).settled.rests
+rests_behind d x y (Err fault) mid x' last same settles = tt

@@ -42,12 +42,12 @@ use Rattle.jfs_legal.specs.served.specs.crash_core.specs.Step.{halted_by}
 use Rattle.jfs_shared.specs.Home.{IsSettled}
 use Rattle.jfs_shared.specs.Faults.{IsOfDisk}
 use Rattle.jfs_shared.specs.Settled.{KeepsHistory, SettlesHistory, IsSettledServed}
-use Rattle.jfs_shared.specs.Shared.{logs_of, entries_in, HasText, IsShared, IsServed, IsKeptServed, IfConsistent, IfChecked}
+use Rattle.jfs_shared.specs.Shared.{logs_of, entries_in, HasText, IsShared, IsServed, IsKeptServed, IfConsistent, IfKeepable}
 use Rattle.jfs_shared.specs.Entries.{Recorded}
 use Rattle.jfs_shared.proofs.Text.{added, ended, reaches, taken_text, joined_text, pointed_text}
-use Rattle.jfs_shared.proofs.Disk.{same_disk, pointed_disk, marked_disk, replied_disk, asked_disk, lacked_disk, home_disk, stopped_disk}
+use Rattle.jfs_shared.proofs.Disk.{same_disk, pointed_disk, marked_disk, replied_disk, asked_disk, lacked_disk, home_disk, stopped_disk, none_by}
 use Rattle.jfs_shared.proofs.Points.{all_syncs, marked_syncs, synced_more, marked_more}
-use Rattle.jfs_shared.proofs.KeptServed.{SamePlace, same_place, kept_joined, kept_asked, kept_taken, kept_halted, kept_told, kept_home, settled_home, kept_pointed, kept_known}
+use Rattle.jfs_shared.proofs.KeptServed.{SamePlace, same_place, kept_joined, kept_asked, kept_lacked, kept_taken, kept_halted, kept_told, kept_home, settled_home, kept_pointed, kept_known}
 use Rattle.jfs_shared.proofs.Stepped.{Stood, Grew}
 use Rattle.jfs_shared.proofs.Served.{served_joined, served_asked, served_lacked, served_settled, served_pointed}
 
@@ -84,9 +84,9 @@ module _ (tells crashes : Type 0) (base : Base) (list : List Recorded) (taken to
   abbrev page : ℕ → List ℕ
   page = page_of image
 
-  -- it is kept, where its history goes on
+  -- it is kept
   abbrev Kept : Bool → List Recorded → List ℕ → Parts → Type 0
-  Kept later more counts new = tells → crashes → later ≡ false → IfChecked base (λ s image. IsKeptServed s image more counts new)
+  Kept later more counts new = tells → crashes → IfKeepable base (λ s image. IsKeptServed s image later more counts new)
 
   -- nothing of them changes
   pub alike_stands : (later : Bool) (new : Parts) → Alike old new → IsOfDisk (start_of base) points new → (tells → IfConsistent base (λ s page. IsServed s page later list new)) → Kept later list points new → IsShared tells crashes base list taken told points known made later new
@@ -139,7 +139,7 @@ module _ (tells crashes : Type 0) (base : Base) (list : List Recorded) (taken to
         disk = replied_disk client line request old new (start_of base) points h.disk reply number waits a;
         served = λ t consistent. served_joined tells crashes t s page broken list asking old new reply number waits noted
             over (h.served t consistent) d;
-        kept = λ t c whole checked. kept_joined tells crashes t c s image list points old (h.kept t c whole checked) asking new reply number waits (kept_place a.keeps) fits few d;
+        kept = λ t c checked. kept_joined tells crashes t c s image broken list points old (h.kept t c checked) asking new reply number waits over (kept_place a.keeps) fits few d;
       },
       a.entry.number_is ∙ a.entry.appended ∙ next,
     )
@@ -170,14 +170,15 @@ module _ (tells crashes : Type 0) (base : Base) (list : List Recorded) (taken to
       blocks = k.blocks;
     }
 
-    pub asked_stands : FitsCall request.call → old.appended + 1 < 2 ^ 32 → IsAnswered client line request old new NeedsLog → Does tells crashes (record { client = client; line = line }) request now old new NeedsLog → Stood old new → IsShared tells crashes base list taken told points known made broken new
-    asked_stands fits few a d g = alike_stands broken new (left a.entry.entries a.entry.appended a.keeps g) (asked_disk client line request old new (start_of base) points h.disk a)
-        (λ t consistent. served_asked tells crashes t s page broken list asking old new (h.served t consistent) d)
-        (λ t c whole checked. kept_asked tells crashes t c s image list points old (h.kept t c whole checked) asking new (kept_place a.keeps) fits few d)
+    pub asked_stands : broken ≡ false → FitsCall request.call → old.appended + 1 < 2 ^ 32 → IsAnswered client line request old new NeedsLog → Does tells crashes (record { client = client; line = line }) request now old new NeedsLog → Stood old new → IsShared tells crashes base list taken told points known made broken new
+    asked_stands over fits few a d g = alike_stands broken new (left a.entry.entries a.entry.appended a.keeps g) (asked_disk client line request old new (start_of base) points h.disk a)
+        (λ t consistent. served_asked tells crashes t s page broken list asking old new over (h.served t consistent) d)
+        (λ t c checked. kept_asked tells crashes t c s image broken list points old (h.kept t c checked) asking new over (kept_place a.keeps) fits few d)
 
-    pub lacked_stands : IsAnswered client line request old new NoMemory → Stood old new → IsShared tells crashes base list taken told points known made true new
-    lacked_stands a g = alike_stands true new (left a.entry.entries a.entry.appended a.keeps g) (lacked_disk client line request old new (start_of base) points h.disk a) (λ t consistent. served_lacked tells crashes t s page broken list old new (h.served t consistent))
-        (λ t c whole checked. absurd (false≢true (sym whole)))
+    pub lacked_stands : broken ≡ false → FitsCall request.call → old.appended + 1 < 2 ^ 32 → IsAnswered client line request old new NoMemory → Does tells crashes (record { client = client; line = line }) request now old new NoMemory → Stood old new → IsShared tells crashes base list taken told points known made true new
+    lacked_stands over fits few a d g = alike_stands true new (left a.entry.entries a.entry.appended a.keeps g) (lacked_disk client line request old new (start_of base) points h.disk a)
+        (λ t consistent. served_lacked tells crashes t s page broken list asking old new over (h.served t consistent) d)
+        (λ t c checked. kept_lacked tells crashes t c s image broken list points old (h.kept t c checked) asking new over (kept_place a.keeps) fits few d)
 
   -- ---- groups
 
@@ -198,8 +199,8 @@ module _ (tells crashes : Type 0) (base : Base) (list : List Recorded) (taken to
     text = taken_text (start_of base).log.ring list taken (syncs points) old.text h.text h.taken_within new.text (ap (λ (p : Parts). p.text.ring) e) (ap (λ (p : Parts). p.text.place) e) (ap (λ (p : Parts). p.text.bytes) e) (ap (λ (p : Parts). p.text.ends) e) (ap (λ (p : Parts). p.text.last) e);
     size = subst (λ (p : Parts). length p.map.states ≤ p.blocks) (sym e) h.size;
     disk = same_disk (start_of base) points old h.disk new (record { count = ap (λ (p : Parts). p.count) e; room = ap (λ (p : Parts). p.room) e; faults = ap (λ (p : Parts). p.faults) e; entries = ap (λ (p : Parts). p.entries) e; halted = ap (λ (p : Parts). p.halted) e });
-    served = λ t consistent. served_settled tells ⊥ t s page broken list old new (group_settles old new parts) (group_pages tells old new parts) (h.served t consistent);
-    kept = λ t c whole checked. kept_taken tells crashes t c s image list points old (h.kept t c whole checked) new place parts alone room moves;
+    served = λ t consistent. served_settled tells ⊥ t s page broken list old new (group_settles old new parts) (group_pages tells old new parts) (λ runs. sym (ap (λ (p : Parts). p.halted) e) ∙ runs) (h.served t consistent);
+    kept = λ t c checked. kept_taken tells crashes t c s image broken list points old (h.kept t c checked) new place parts alone room moves;
   }
     where
       parts : GroupParts old new
@@ -237,8 +238,8 @@ module _ (tells crashes : Type 0) (base : Base) (list : List Recorded) (taken to
     text = subst {A = Text × ℕ} (λ z. HasText (start_of base).log.ring list taken z.1 z.0) (λ i. (sym (ap (λ (p : Parts). p.text) e) i, sym (marked_syncs points) i)) h.text;
     size = subst (λ (p : Parts). length p.map.states ≤ p.blocks) (sym e) h.size;
     disk = marked_disk (start_of base) points old h.disk fault new e;
-    served = λ t consistent. served_settled tells ⊥ t s page broken list old new (group_settles old new parts) (group_pages tells old new parts) (h.served t consistent);
-    kept = λ t c whole checked. kept_halted tells crashes t c s image list points old (h.kept t c whole checked) fault new (same_place old new (ap (λ (p : Parts). p.text.ring) e) (ap (λ (p : Parts). p.blocks) e)) parts
+    served = λ t consistent. served_settled tells ⊥ t s page broken list old new (group_settles old new parts) (group_pages tells old new parts) (λ now. runs) (h.served t consistent);
+    kept = λ t c checked. kept_halted tells crashes t c s image broken list points old (h.kept t c checked) fault new (same_place old new (ap (λ (p : Parts). p.text.ring) e) (ap (λ (p : Parts). p.blocks) e)) parts
         (e ∙ ap (λ (h : Option Fault). record old { halted = halted_by fault h }) (sym runs));
   }
     where
@@ -266,8 +267,8 @@ module _ (tells crashes : Type 0) (base : Base) (list : List Recorded) (taken to
     text = subst (λ (t : Text). HasText (start_of base).log.ring list taken (syncs points) t) (sym (ap (λ (p : Parts). p.text) e)) h.text;
     size = let before = h.size in omega (arith, before, ap (λ (p : Parts). length p.map.states) e ∙ as_many_states n old.map, ap (λ (p : Parts). p.blocks) e);
     disk = same_disk (start_of base) points old h.disk new (record { count = ap (λ (p : Parts). p.count) e; room = ap (λ (p : Parts). p.room) e; faults = ap (λ (p : Parts). p.faults) e; entries = ap (λ (p : Parts). p.entries) e; halted = ap (λ (p : Parts). p.halted) e });
-    served = λ t consistent. served_settled tells ⊥ t s page broken list old new settles (record { files = ap (λ (p : Parts). p.files) e; view = shows }) (h.served t consistent);
-    kept = λ t c whole checked. kept_told tells crashes t c s image list points old (h.kept t c whole checked) n new (same_place old new (ap (λ (p : Parts). p.text.ring) e) (ap (λ (p : Parts). p.blocks) e)) settles
+    served = λ t consistent. served_settled tells ⊥ t s page broken list old new settles (record { files = ap (λ (p : Parts). p.files) e; view = shows }) (λ runs. sym (ap (λ (p : Parts). p.halted) e) ∙ runs) (h.served t consistent);
+    kept = λ t c checked. kept_told tells crashes t c s image broken list points old (h.kept t c checked) n new (same_place old new (ap (λ (p : Parts). p.text.ring) e) (ap (λ (p : Parts). p.blocks) e)) settles
         (record { files = ap (λ (p : Parts). p.files) e; view = shows }) (ap (λ (p : Parts). p.halted) e) tell;
   }
     where
@@ -302,32 +303,32 @@ module _ (tells crashes : Type 0) (base : Base) (list : List Recorded) (taken to
   home_place new e = same_place old new (ap (λ (p : Parts). p.text.ring) e) (ap (λ (p : Parts). p.blocks) e)
 
   pub home_stands : (new : Parts) → IsSettled old new → new.faults ≡ old.faults → new.halted ≡ old.halted → Settles old new → StaysShown tells old new → (tells → LeavesMaps old new) → KeepsHistory tells crashes old new → IsShared tells crashes base list taken told points known made broken new
-  home_stands new e faults halted settles shown maps keeps = alike_stands broken new (home_alike new e) (home_disk (start_of base) points old new h.disk e faults halted) (λ t consistent. served_pointed tells ⊥ t s page broken list old new settles shown (maps t) (h.served t consistent))
-      (λ t c whole checked. kept_home tells crashes t c s image list points old (h.kept t c whole checked) new (home_place new e) settles shown (maps t) keeps)
+  home_stands new e faults halted settles shown maps keeps = alike_stands broken new (home_alike new e) (home_disk (start_of base) points old new h.disk e faults halted) (λ t consistent. served_pointed tells ⊥ t s page broken list old new settles shown (maps t) (λ runs. sym halted ∙ runs) (h.served t consistent))
+      (λ t c checked. kept_home tells crashes t c s image broken list points old (h.kept t c checked) new (home_place new e) settles shown (maps t) (λ runs. sym halted ∙ runs) keeps)
 
   -- a SYNCPT may be made then
-  pub home_settles : (new : Parts) → IsSettled old new → Settles old new → StaysShown tells old new → (tells → LeavesMaps old new) → SettlesHistory tells crashes old new → tells → crashes → broken ≡ false → IfChecked base (λ s image. IsSettledServed s image list points new)
-  home_settles new e settles shown maps keeps t c whole checked = settled_home tells crashes t c s image list points old (h.kept t c whole checked) new (home_place new e) settles shown (maps t) keeps
+  pub home_settles : (new : Parts) → IsSettled old new → new.halted ≡ old.halted → Settles old new → StaysShown tells old new → (tells → LeavesMaps old new) → SettlesHistory tells crashes old new → tells → crashes → IfKeepable base (λ s image. IsSettledServed s image broken list points new)
+  home_settles new e halted settles shown maps keeps t c checked = settled_home tells crashes t c s image broken list points old (h.kept t c checked) new (home_place new e) settles shown (maps t) (λ runs. sym halted ∙ runs) keeps
 
   -- one of them can't
   pub stopped_stands : (new : Parts) → IsSettled old new → (fault : Fault) → Rose old.faults new.faults → new.halted ≡ halted_by fault old.halted → Settles old new → StaysShown tells old new → (tells → LeavesMaps old new) → KeepsHistory tells crashes old new → IsShared tells crashes base list taken told points known made broken new
   stopped_stands new e fault rose halts settles shown maps keeps = alike_stands broken new (home_alike new e) (stopped_disk (start_of base) points old new h.disk e fault rose halts)
-      (λ t consistent. served_pointed tells ⊥ t s page broken list old new settles shown (maps t) (h.served t consistent))
-      (λ t c whole checked. kept_home tells crashes t c s image list points old (h.kept t c whole checked) new (home_place new e) settles shown (maps t) keeps)
+      (λ t consistent. served_pointed tells ⊥ t s page broken list old new settles shown (maps t) (λ runs. absurd (none_by fault old.halted (sym halts ∙ runs))) (h.served t consistent))
+      (λ t c checked. kept_home tells crashes t c s image broken list points old (h.kept t c checked) new (home_place new e) settles shown (maps t) (λ runs. absurd (none_by fault old.halted (sym halts ∙ runs))) keeps)
 
   -- ---- a SYNCPT
 
   -- it leaves the tree
   beside : (new : Parts) → PointParts old new → new.halted ≡ old.halted → tells → IfConsistent base (λ s page. IsServed s page broken list new)
   beside new p halted t consistent = served_settled tells ⊥ t s page broken list old new (pointed old old new (group_settles old old refl) p)
-      (record { files = ap (λ (x : Parts). x.files) p; view = λ _ q free. ap (λ (x : Parts). page_of x.view q) p }) (h.served t consistent)
+      (record { files = ap (λ (x : Parts). x.files) p; view = λ _ q free. ap (λ (x : Parts). page_of x.view q) p }) (λ runs. sym halted ∙ runs) (h.served t consistent)
 
   -- what a SYNCPT changes
   point_parts : (new : Parts) → new ≡ with_point old → PointParts old new
   point_parts new e = e ∙ ap (λ (p : Parts). record old { points = p.points; known = p.known; taken = p.taken; text = p.text; halted = p.halted }) (sym e)
 
   pub point_stands : (new : Parts) → length list < 2 ^ 64 → taken ≡ length list → old.text.bytes ≡ [] → new ≡ with_point old → OfEachHalf tells crashes old (λ seen asked half. MayPoint half → Moves seen asked old new half (Points ∷ Takes ∷ []))
-      → (tells → crashes → broken ≡ false → IfChecked base (λ s image. IsSettledServed s image list points old)) → IsShared tells crashes base list (length list) told (points ++ length list ∷ []) known (made + 1) broken new
+      → (tells → crashes → IfKeepable base (λ s image. IsSettledServed s image broken list points old)) → IsShared tells crashes base list (length list) told (points ++ length list ∷ []) known (made + 1) broken new
   point_stands new few all empty e moves settled = record {
     entries = ap (λ (p : Parts). p.entries) e ∙ h.entries;
     appended = ap (λ (p : Parts). p.appended) e ∙ h.appended;
@@ -344,7 +345,7 @@ module _ (tells crashes : Type 0) (base : Base) (list : List Recorded) (taken to
     size = subst (λ (p : Parts). length p.map.states ≤ p.blocks) (sym e) h.size;
     disk = pointed_disk (start_of base) points old h.disk (points ++ length list ∷ []) new (marked_more points (length list) few) (record { count = ap (λ (p : Parts). p.count) e; room = ap (λ (p : Parts). p.room) e; faults = ap (λ (p : Parts). p.faults) e; entries = ap (λ (p : Parts). p.entries) e; halted = ap (λ (p : Parts). p.halted) e });
     served = λ t consistent. beside new (point_parts new e) (ap (λ (p : Parts). p.halted) e) t consistent;
-    kept = λ t c whole checked. kept_pointed tells crashes t c s image list points old (settled t c whole checked) new (same_place old new (ap (λ (p : Parts). p.text.ring) e) (ap (λ (p : Parts). p.blocks) e)) (point_parts new e) few empty e moves;
+    kept = λ t c checked. kept_pointed tells crashes t c s image broken list points old (settled t c checked) new (same_place old new (ap (λ (p : Parts). p.text.ring) e) (ap (λ (p : Parts). p.blocks) e)) (point_parts new e) few empty e moves;
   }
 
   -- all are known to be stable
@@ -364,7 +365,7 @@ module _ (tells crashes : Type 0) (base : Base) (list : List Recorded) (taken to
     size = subst (λ (p : Parts). length p.map.states ≤ p.blocks) (sym e) h.size;
     disk = same_disk (start_of base) points old h.disk new (record { count = ap (λ (p : Parts). p.count) e; room = ap (λ (p : Parts). p.room) e; faults = ap (λ (p : Parts). p.faults) e; entries = ap (λ (p : Parts). p.entries) e; halted = ap (λ (p : Parts). p.halted) e });
     served = λ t consistent. beside new parts (ap (λ (p : Parts). p.halted) e) t consistent;
-    kept = λ t c whole checked. kept_known tells crashes t c s image list points old (h.kept t c whole checked) new (same_place old new (ap (λ (p : Parts). p.text.ring) e) (ap (λ (p : Parts). p.blocks) e)) parts e moves;
+    kept = λ t c checked. kept_known tells crashes t c s image broken list points old (h.kept t c checked) new (same_place old new (ap (λ (p : Parts). p.text.ring) e) (ap (λ (p : Parts). p.blocks) e)) parts e moves;
   }
     where
       parts : PointParts old new

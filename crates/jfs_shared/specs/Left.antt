@@ -1,5 +1,5 @@
 -- What a crash leaves of the disk of a volume and its log, and what redo makes of it.
-use Rattle.std.specs.Prelude.{◌≡◌, ◌++◌, ℕ, false, List, None}
+use Rattle.std.specs.Prelude.{◌≡◌, ◌++◌, ℕ, List, None}
 use Rattle.jfs_disk.specs.Crash.{DiskState, Leaves, last_of}
 use Rattle.jfs_disk.specs.Image.{Image, page_of}
 use Rattle.jfs_disk.specs.declared.disk.Disk.{Ghosts}
@@ -12,7 +12,7 @@ use Rattle.jfs_legal.specs.History.{AreLegal}
 use Rattle.jfs_kept_history.specs.Crash.{IsRedoneToHistory}
 use Rattle.jfs_shared.specs.Both.{Seen, AreOf}
 use Rattle.jfs_shared.specs.Entries.{Recorded}
-use Rattle.jfs_shared.specs.Shared.{IfChecked, timed_in, lasting_in, standing, log_standing}
+use Rattle.jfs_shared.specs.Shared.{IfKeepable, timed_in, lasting_in, standing, log_standing}
 use Rattle.jfs_shared.specs.declared.shared.SharedVolume.{SharedVolume}
 
 -- From a volume on that holds the image's tree and hasn't halted, these entries are a legal history; and whatever a crash leaves of a disk in this state is redone to that history, with all durable entries.
@@ -23,7 +23,7 @@ pub record IsLeft (s : Super) (image : Image) (list : List Recorded) (durable : 
   pub legal : AreLegal (meaning.volume_of s (page_of image)).area s.logpxd.len start (timed_in list)
   pub redone : Leaves (λ left. IsRedoneToHistory s (page_of image) start (lasting_in list) durable left) state
 
--- so it is of both parts of the disk, whether or not the log has halted
+-- so it is of both parts of the disk, whether or not the log has halted or the history broke off
 abbrev pub LeftLaw : {D : Type 0} (d : Ghosts D) → Type 0
-LeftLaw {D} d = (n : Seen) (x : SharedVolume D) (y : SharedLog D d) → AreOf (standing d) (log_standing d) n x y → d.tells → d.tells_crashes → x.is_broken_off ≡ false
-    → IfChecked n.base (λ s image. IsLeft s image n.list n.durable (last_of x.volume.past ++ last_of (d.past y.side.part)))
+LeftLaw {D} d = (n : Seen) (x : SharedVolume D) (y : SharedLog D d) → AreOf (standing d) (log_standing d) n x y → d.tells → d.tells_crashes
+    → IfKeepable n.base (λ s image. IsLeft s image n.list n.durable (last_of x.volume.past ++ last_of (d.past y.side.part)))

@@ -20,8 +20,8 @@ use Rattle.jfs_legal.specs.served.specs.shown.specs.meaning.specs.Image.{IsConsi
 use Rattle.jfs_legal.specs.served.specs.shown.specs.meaning.specs.Image as meaning
 use Rattle.jfs_legal.specs.served.specs.Legal.{Timed}
 use Rattle.jfs_legal.specs.served.specs.Laws.{HoldsImage}
-use Rattle.jfs_legal.specs.History.{AreLegal, GoOn}
-use Rattle.jfs_kept_history.specs.Checked.{IsCheckedImage}
+use Rattle.jfs_legal.specs.History.{AreLegal, GoOn, IsOver}
+use Rattle.jfs_kept_history.specs.Keepable.{IsKeepableImage}
 use Rattle.jfs_kept_history.specs.Kept.{Lasting, IsKeptSince}
 use Rattle.jfs_shared.specs.Base.{start_of, log_start_of, image_of}
 use Rattle.jfs_shared.specs.Faults.{IsOfDisk}
@@ -69,10 +69,10 @@ pub record HasText (ring : ℕ) (list : List Recorded) (taken points : ℕ) (tex
 
 -- ---- the replies
 
--- They are a legal history that goes on; or memory ran out for a call, and they broke off: they are legal, and nothing is said of the tree behind them. No call is done then.
+-- They are a legal history that goes on; or memory ran out for a call, and they broke off: they are legal, and the volume is a consistent one, which has the tree of the last of them while it runs. No call is done then.
 abbrev pub GoesOn : Bool → (ℕ → ℕ) → ℕ → Parts → List Timed → Parts → Type 0
 GoesOn false area log_pages start es p = GoOn area log_pages start es p
-GoesOn true area log_pages start es p = AreLegal area log_pages start es
+GoesOn true area log_pages start es p = IsOver area log_pages start es p
 
 -- either way they are legal
 abbrev pub HistoryLaw : Type 0
@@ -93,8 +93,8 @@ pub record IsServed (s : Super) (page : ℕ → List ℕ) (is_broken_off : Bool)
   pub goes_on : GoesOn is_broken_off (meaning.volume_of s page).area s.logpxd.len start (timed_in list) p
 
 -- What keeps it for a redo has its entries and its sync counts. Its log's ring, and its part of the disk, are as the superblock says.
-pub record IsKeptServed (s : Super) (image : Image) (list : List Recorded) (points : List ℕ) (p : Parts) : Type 0 where
-  pub served : IsServed s (page_of image) false list p
+pub record IsKeptServed (s : Super) (image : Image) (is_broken_off : Bool) (list : List Recorded) (points : List ℕ) (p : Parts) : Type 0 where
+  pub served : IsServed s (page_of image) is_broken_off list p
   pub since : IsKeptSince s (page_of image) served.start (lasting_in list) (counts_in points) p
   pub ring : p.text.ring ≡ s.logpxd.len - 2
   pub blocks : p.blocks ≡ s.logpxd.addr
@@ -103,13 +103,13 @@ pub record IsKeptServed (s : Super) (image : Image) (list : List Recorded) (poin
 abbrev pub IfConsistent : Base → (Super → (ℕ → List ℕ) → Type 0) → Type 0
 IfConsistent base fact = IsConsistentImage (super_of (page_of (image_of base) 8)) (page_of (image_of base)) → fact (super_of (page_of (image_of base) 8)) (page_of (image_of base))
 
--- where a check finds nothing on it
-abbrev pub IfChecked : Base → (Super → Image → Type 0) → Type 0
-IfChecked base fact = IsCheckedImage (super_of (page_of (image_of base) 8)) (image_of base) → fact (super_of (page_of (image_of base) 8)) (image_of base)
+-- where it is keepable
+abbrev pub IfKeepable : Base → (Super → Image → Type 0) → Type 0
+IfKeepable base fact = IsKeepableImage (super_of (page_of (image_of base) 8)) (image_of base) → fact (super_of (page_of (image_of base) 8)) (image_of base)
 
 -- ---- all of it
 
--- The volume has the list's entries, each with a number of 32 bits. Groups have taken so many of them, and so many are acknowledged. It has made so many syncpoints since the mount, which has one of its own, and knows so many to be stable; the list of syncpoints may have a mark, that the log has halted, beside them. It has the pages of its part of the disk; a fault has halted it, or is a call's reply, only where a count of faults rose. Of a disk that tells its contents, its replies are legal; and of one that tells crashes too, mounted from an image on which a check finds nothing, it is kept for a redo, unless its history broke off.
+-- The volume has the list's entries, each with a number of 32 bits. Groups have taken so many of them, and so many are acknowledged. It has made so many syncpoints since the mount, which has one of its own, and knows so many to be stable; the list of syncpoints may have a mark, that the log has halted, beside them. It has the pages of its part of the disk; a fault has halted it, or is a call's reply, only where a count of faults rose. Of a disk that tells its contents, its replies are legal; and of one that tells crashes too, mounted from a keepable image, it is kept for a redo, also where its history broke off.
 pub record IsShared (tells crashes : Type 0) (base : Base) (list : List Recorded) (taken told : ℕ) (points : List ℕ) (known : ℕ) (made : ℕ) (is_broken_off : Bool) (p : Parts) : Type 0 where
   pub entries : p.entries ≡ entries_in list
   pub appended : p.appended ≡ length list
@@ -125,7 +125,7 @@ pub record IsShared (tells crashes : Type 0) (base : Base) (list : List Recorded
   pub size : length p.map.states ≤ p.blocks
   pub disk : IsOfDisk (start_of base) points p
   pub served : tells → IfConsistent base (λ s page. IsServed s page is_broken_off list p)
-  pub kept : tells → crashes → is_broken_off ≡ false → IfChecked base (λ s image. IsKeptServed s image list points p)
+  pub kept : tells → crashes → IfKeepable base (λ s image. IsKeptServed s image is_broken_off list points p)
 
 abbrev pub standing : {D : Type 0} (d : Ghosts D) → Standing (SharedVolume D) Recorded
 standing d v base list taken told points known = IsShared d.tells d.tells_crashes base list taken told points known v.points v.is_broken_off v.volume

@@ -18,7 +18,7 @@ use std::alloc::Global;
 const LAST_ENTRY: u64 = 4_294_967_295;
 
 /// A call of a client, by its line, at this moment. Where it is replied its entry joins the list; `NeedsLog` tells that it is to be called again after a commit or a syncpoint. Behind a call for which memory ran out
-/// nothing more is said of the tree, so each later one is answered so, too.
+/// the history is over, so each later one is answered so, too: the volume is still a consistent one, and has the tree of the last entry while it runs.
 pub fn call<D: Disk>(
     alloc: Global,
     shared: &mut SharedVolume<D>,

@@ -16,7 +16,7 @@ pub fn histories_are_legal()
     ensures { HistoryLaw }
 {}
 
-/// Whatever a crash leaves of a volume and its log, whether or not the log has halted, is redone to the volume's history, with all durable entries: on a disk that tells its contents and crashes, mounted from an image on which a check finds nothing.
+/// Whatever a crash leaves of a volume and its log, whether or not the log has halted or the history broke off, is redone to the volume's history, with all durable entries: on a disk that tells its contents and crashes, mounted from a keepable image.
 pub fn crashes_are_redone_to_histories<D: Disk>()
     ensures { LeftLaw D.Disk }
 {}

@@ -3,7 +3,8 @@
 ghost use Rattle.std.specs.Prelude.{◌≡◌, ◌≤◌, ◌+◌, ◌*◌, ◌^◌, [], nat_le, length, OnOk, IfErr, None, Some};
 ghost use Rattle.jfs_volume_calls.specs.Syncpoint.{HasFaultOfEither, HasPointFault};
 ghost use Rattle.jfs_shared.specs.Both.{AreTogether, PointIs};
-ghost use Rattle.jfs_shared.specs.Settled.{AreSettled, PointBehind};
+ghost use Rattle.jfs_legal.specs.served.specs.unmount.specs.Unmount.{IsAllHome};
+ghost use Rattle.jfs_shared.specs.Settled.{AreSettled, LeavesPages, PointBehind, RestsBehind};
 ghost use Rattle.jfs_shared.specs.Shared.{standing, log_standing};
 
 use crate::committing::commit_with;
@@ -35,6 +36,9 @@ pub fn point_with<D: Disk>(
     requires room { shared.old.volume.text.place + length shared.old.volume.text.bytes + 72 ≤ 4080 * 2 ^ 32 }
     requires together { AreTogether (standing D.Disk) (log_standing D.Disk) shared.old log.old }
     ensures point { PointIs (standing D.Disk) (log_standing D.Disk) shared.old log.old shared.new log.new result }
+    // Every page is home then, and none waits to be synced.
+    ensures home { OnOk result (IsAllHome shared.new.volume) }
+    ensures rests { OnOk result (RestsBehind D.Disk shared.old log.old shared.new) }
     ensures goes_on { OnOk result ((log.new.side.halted ≡ None) × (shared.new.volume.halted ≡ None)) }
     ensures halts { IfErr result (λ fault. shared.new.volume.halted ≡ Some fault) }
     ensures breaks { shared.new.is_broken_off ≡ shared.old.is_broken_off }
@@ -60,6 +64,7 @@ fn write_point<D: Disk>(shared: &mut SharedVolume<D>, log: &mut SharedLog<D>) ->
     requires told { shared.old.volume.told ≡ shared.old.volume.appended }
     requires together { AreSettled D.Disk shared.old log.old }
     ensures point { PointBehind D.Disk shared.old log.old shared.new log.new result }
+    ensures pages { OnOk result (LeavesPages shared.old.volume shared.new.volume) }
     ensures goes_on { OnOk result ((log.new.side.halted ≡ None) × (shared.new.volume.halted ≡ None)) }
     ensures halts { IfErr result (λ fault. shared.new.volume.halted ≡ Some fault) }
     ensures breaks { shared.new.is_broken_off ≡ shared.old.is_broken_off }

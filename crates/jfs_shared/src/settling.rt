@@ -4,6 +4,7 @@ ghost use Rattle.std.specs.Prelude.{◌≡◌, None, OnOk};
 ghost use Rattle.jfs_volume_calls.specs.volume.specs.pages.specs.Device.{HasFault};
 ghost use Rattle.jfs_volume_calls.specs.volume.specs.Settles.{Settles, StaysShown, HaltsAt};
 ghost use Rattle.jfs_volume_calls.specs.Written.{LeavesMaps};
+ghost use Rattle.jfs_legal.specs.served.specs.unmount.specs.Unmount.{IsAllHome};
 ghost use Rattle.jfs_shared.specs.Home.{IsSettled};
 ghost use Rattle.jfs_shared.specs.Settled.{KeepsHistory, SettlesHistory};
 
@@ -24,6 +25,7 @@ pub(crate) fn settle<D: Disk>(volume: &mut Volume<D>) -> Result<(), Fault>
     ensures leaves { D.tells → LeavesMaps volume.old volume.new }
     ensures history { KeepsHistory D.tells D.tells_crashes volume.old volume.new }
     ensures settled { OnOk result (SettlesHistory D.tells D.tells_crashes volume.old volume.new) }
+    ensures home { OnOk result (IsAllHome volume.new) }
     ensures halts { HaltsAt volume.old.halted volume.new.halted result }
     ensures cause { HasFault volume.old.faults volume.new.faults result }
 {

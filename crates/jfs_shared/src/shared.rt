@@ -16,7 +16,7 @@ pub struct SharedVolume<D: Disk> {
     pub(crate) point: PointGroup,
     /// How many syncpoints it has made, beside the mount's, and one more where the log has halted it.
     pub(crate) points: u64,
-    /// Whether memory ran out for a call: nothing is said of the tree behind it, so no call is done any more.
+    /// Whether memory ran out for a call: no call is done any more. The volume is still a consistent one, and has the tree of the last entry while it runs.
     pub(crate) is_broken_off: bool,
 }
 

@@ -23,9 +23,7 @@ use Rattle.jfs_shown.proofs.Image.{image_law}
 use Rattle.jfs_shown.proofs.Places.{files_law, keeps_law}
 use Rattle.jfs_mounted.specs.Laws.{SameButSuper}
 use Rattle.jfs_mounted.proofs.Marked.{in_first, area_there, same_tree, still_consistent}
-use Rattle.jfs_disk.specs.Image.{page_of}
-use Rattle.jfs_super.specs.Super.{super_of}
-use Rattle.jfs_unmount.specs.Laws.{IsSettled, KeepsTree, SettledLaw, CleanLaw}
+use Rattle.jfs_unmount.specs.Laws.{IsSettled, KeepsTree, SettledLaw}
 
 -- On a consistent volume of pages and maps a block of an area is in use, once, and so lies within the file system part.
 module _ (s : Super) (page : ℕ → List ℕ) (area : ℕ → ℕ) (m : Blocks) (i : Inodes) (consistent : IsConsistent (readers (blocks_of s)) (volume_of page area m i)) where
@@ -123,9 +121,3 @@ module _ (s : Super) (old new : ℕ → List ℕ) (area : ℕ → ℕ) (m : Bloc
 
 pub settled_law : SettledLaw
 settled_law = tree_kept
-
-pub clean_law : CleanLaw
-clean_law s area superblock old log image past ends is fits settled = record {
-  superblock = ap super_of (ends.superblock_is tt) ∙ is;
-  keeps = tree_kept s (page_of ends.point.volume.view) (page_of image) area ends.point.volume.map ends.point.volume.inodes settled (λ b other below. ends.pages_are tt b other (omega (arith, below, fits)));
-}

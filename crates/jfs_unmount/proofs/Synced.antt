@@ -1,4 +1,4 @@
--- A syncpoint settles the maps of a volume.
+-- A syncpoint writes the pages of a volume's maps.
 use Rattle.std.specs.Bool.{⊤}
 use Rattle.std.proofs.Common.{◌≡◌, ◌⊎◌, ◌<◌, refl, sym, ap, ◌∙◌, subst, ℕ, zero, suc, ◌+◌, ◌*◌, nat_le, Bool, true, false, if◌then◌else◌, List, length, slice_get, inl, inr, Some, arith}
 use Rattle.std.proofs.lemmas.Bool.Decides.{nat_tests}
@@ -10,7 +10,6 @@ use Rattle.jfs_shown.specs.imap.specs.Inodes.{Inodes}
 use Rattle.jfs_shown.specs.bmap.specs.MapFile.{is_in_use, pages_of}
 use Rattle.jfs_shown.specs.bmap.specs.States.{Blocks, BlockState, Free, Owned, Reserved, Busy, state_of, is_owned, is_owned_state, settled_state, blocks_settled}
 use Rattle.jfs_shown.specs.bmap.proofs.States.{changed-each, changed-length}
-use Rattle.jfs_shown.specs.map_files.specs.declared.map_file.MapFiles.{MapFiles}
 use Rattle.jfs_shown.specs.objects.specs.Readers.{Readers}
 use Rattle.jfs_shown.specs.objects.specs.Volume.{Volume}
 use Rattle.jfs_shown.specs.meaning.specs.Readers.{readers}
@@ -20,14 +19,13 @@ use Rattle.jfs_shown.specs.Shown.{ShowsBlocks, ShowsInodes}
 use Rattle.jfs_shown.specs.Laws.{map_pages}
 use Rattle.jfs_shown.specs.Files.{KnowsFiles, HasOwnPlaces}
 use Rattle.jfs_shown.proofs.Canonical.{canonical_law}
-use Rattle.jfs_shown.proofs.Files.{written_law, change_law, own_law}
+use Rattle.jfs_shown.proofs.Files.{change_law, own_law}
 use Rattle.jfs_shown.proofs.Places.{keeps_law}
 use Rattle.jfs_volume_calls.specs.halves.specs.Parts.{Parts}
-use Rattle.jfs_volume_calls.specs.volume.specs.MapsHome.{AreApart, ShowsBlockMap, HoldsNone, with_written}
+use Rattle.jfs_volume_calls.specs.volume.specs.MapsHome.{AreApart, ShowsBlockMap, HoldsNone}
 use Rattle.jfs_volume_calls.specs.volume.specs.Settles.{Settles, SettlesTo, KeepsMap, StaysShown}
 use Rattle.jfs_volume_calls.specs.Written.{LeavesMaps}
-use Rattle.jfs_unmount.specs.Laws.{IsSettled}
-use Rattle.jfs_unmount.specs.Synced.{LeavesMapsHome, SyncedLaw, HomeLaw, StillKnownLaw, IsHome, NoneFreed}
+use Rattle.jfs_unmount.specs.Synced.{LeavesMapsHome, StillKnownLaw, NoneFreed}
 
 -- a page of the block map's file is in use where it tells anything
 dmap_in_use : (blocks k : ℕ) → suc (suc (suc (suc k))) < pages_of blocks → is_in_use blocks (suc (suc (suc (suc k)))) ≡ true
@@ -108,18 +106,6 @@ module _ (s : Super) (area : ℕ → ℕ) (old new : Parts) (knows : KnowsFiles 
     inode_map = shows_inodes;
   })
 
-  pub settled : new.files ≡ with_written old.files → IsConsistent r (volume_of (page_of new.view) area new.map new.inodes) → IsSettled s (page_of new.view) area new.map new.inodes
-  settled files after = record {
-    consistent = after;
-    sizes = known.sizes;
-    areas = known.areas;
-    files = known.whole;
-    shows = written_law s (page_of new.view) area new.map new.inodes new.files known (ap (λ (f : MapFiles). f.blocks.stale) files) (ap (λ (f : MapFiles). f.inodes.stale) files);
-  }
-
-pub synced_law : SyncedLaw
-synced_law s area old new knows consistent home after = settled s area old new knows consistent home.leaves home.files after
-
 -- ---- a syncpoint puts them home
 
 pub settled_at : (n : ℕ) (m : Blocks) (b : ℕ) → state_of (blocks_settled n m) b ≡ settled_state n (state_of m b)
@@ -174,12 +160,6 @@ module _ (s : Super) (area : ℕ → ℕ) (old new : Parts) (knows : KnowsFiles 
 
   pub still_known : KnowsFiles s (page_of new.view) area new.map new.inodes new.files
   still_known = known s area old new knows consistent leaves
-
-  pub is_home : new.files ≡ with_written old.files → IsHome s area old new
-  is_home files = record { puts = record { files = files; leaves = leaves }; knows = still_known }
-
-pub home_law : HomeLaw
-home_law s area old new knows consistent free settles shown maps = is_home s area old new knows consistent free settles shown maps.leaves maps.files
 
 pub still_known_law : StillKnownLaw
 still_known_law = still_known

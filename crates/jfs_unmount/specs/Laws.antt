@@ -1,10 +1,6 @@
--- What is known of a volume's maps from its mount on, and what the disk means once it is unmounted.
-use Rattle.std.specs.Prelude.{◌≡◌, ◌≤◌, ℕ, List, ⊤}
-use Rattle.jfs_disk.specs.Image.{Image, page_of}
-use Rattle.jfs_disk.specs.Crash.{DiskState}
-use Rattle.jfs_super.specs.Super.{super_of}
+-- What is known of a volume's maps from its mount on, and what its pages mean at the end.
+use Rattle.std.specs.Prelude.{◌≡◌, ℕ, List}
 use Rattle.jfs_super.specs.Geometry.{geometry_of}
-use Rattle.jfs_super.specs.declared.fields.TheConstants.VolumeState.{CLEAN}
 use Rattle.jfs_super.specs.Rules.{blocks_of}
 use Rattle.jfs_super.specs.declared.fields.Super.{Super}
 use Rattle.jfs_shown.specs.imap.specs.Inodes.{Inodes}
@@ -24,10 +20,7 @@ use Rattle.jfs_shown.specs.Laws.{HasSizes, AreAreas}
 use Rattle.jfs_shown.specs.Files.{KnowsFiles}
 use Rattle.jfs_mounted.specs.mount_maps.specs.Maps.{AreAtRest, AreMapsOf}
 use Rattle.jfs_mounted.specs.mount_maps.specs.declared.found.FoundMaps.{FoundMaps}
-use Rattle.jfs_volume_calls.specs.halves.specs.Parts.{Parts}
-use Rattle.jfs_volume_calls.specs.halves.specs.Log.{LogParts}
 use Rattle.jfs_mounted.specs.Laws.{SameButSuper}
-use Rattle.jfs_unmount.specs.Unmount.{Ends}
 
 -- ---- from the mount on
 
@@ -55,13 +48,3 @@ pub record KeepsTree (s : Super) (old new : ℕ → List ℕ) (area : ℕ → �
 -- Whatever the superblock's page has, and whatever stands behind the file system part.
 abbrev pub SettledLaw : Type 0
 SettledLaw = (s : Super) (old new : ℕ → List ℕ) (area : ℕ → ℕ) (blocks : Blocks) (inodes : Inodes) → IsSettled s old area blocks inodes → SameButSuper s old new → KeepsTree s old new area blocks inodes
-
--- What an unmount ends with, of a disk that tells its contents, where the pages that the volume shows after its syncpoint show its maps: the superblock says that the volume is clean, and the image is consistent and has the volume's tree.
-pub record IsClean (s : Super) (area : ℕ → ℕ) (now : Parts) (image : Image) : Type 0 where
-  pub superblock : super_of (page_of image 8) ≡ record s { state = CLEAN }
-  pub keeps : KeepsTree s (page_of now.view) (page_of image) area now.map now.inodes
-
-abbrev pub CleanLaw : Type 0
-CleanLaw = (s : Super) (area : ℕ → ℕ) (superblock : List ℕ) (old : Parts) (log : LogParts) (image : Image) (past : List DiskState)
-    → (ends : Ends ⊤ ⊥ superblock old log image past) → super_of superblock ≡ record s { state = CLEAN } → blocks_of s ≤ ends.point.volume.blocks
-    → IsSettled s (page_of ends.point.volume.view) area ends.point.volume.map ends.point.volume.inodes → IsClean s area ends.point.volume image

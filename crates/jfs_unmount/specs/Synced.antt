@@ -9,10 +9,9 @@ use Rattle.jfs_shown.specs.meaning.specs.Consistent.{IsConsistent}
 use Rattle.jfs_shown.specs.way.specs.Volume.{volume_of}
 use Rattle.jfs_shown.specs.Files.{KnowsFiles}
 use Rattle.jfs_volume_calls.specs.halves.specs.Parts.{Parts}
-use Rattle.jfs_volume_calls.specs.volume.specs.MapsHome.{ShowsBlockMap, ShowsInodeMap, HoldsNone, with_written}
+use Rattle.jfs_volume_calls.specs.volume.specs.MapsHome.{ShowsBlockMap, ShowsInodeMap, HoldsNone}
 use Rattle.jfs_volume_calls.specs.volume.specs.Settles.{Settles, StaysShown, is_freed}
-use Rattle.jfs_volume_calls.specs.Written.{LeavesMaps, WritesMaps}
-use Rattle.jfs_unmount.specs.Laws.{IsSettled}
+use Rattle.jfs_volume_calls.specs.Written.{LeavesMaps}
 
 -- A map that had changed, and counts as written then, is shown by its pages in their canonical form, and the pages of one that hadn't stay; so do the fixed areas beside these pages. The blocks with owners stay, and the inode map; and the maps' files lie where they did.
 pub record LeavesMapsHome (area : ℕ → ℕ) (old new : Parts) : Type 0 where
@@ -27,30 +26,11 @@ pub record LeavesMapsHome (area : ℕ → ℕ) (old new : Parts) : Type 0 where
   pub inode_pages : old.files.inodes.stale ≡ false → (n b : ℕ) → slice_get old.files.inodes.places n ≡ Some b → page_of new.view b ≡ page_of old.view b
   pub areas : (b : ℕ) → 0 < area b → HoldsNone old.files b → page_of new.view b ≡ page_of old.view b
 
--- each map counts as written
-pub record PutsMapsHome (area : ℕ → ℕ) (old new : Parts) : Type 0 where
-  pub files : new.files ≡ with_written old.files
-  pub leaves : LeavesMapsHome area old new
-
 -- no page of a fixed area was freed by an entry
 abbrev pub NoneFreed : (ℕ → ℕ) → Parts → Type 0
 NoneFreed area p = (b : ℕ) → 0 < area b → is_freed p.freed b ≡ false
 
--- A syncpoint does so on a volume of whose maps' files all is known, and all is known of them then.
-pub record IsHome (s : Super) (area : ℕ → ℕ) (old new : Parts) : Type 0 where
-  pub puts : PutsMapsHome area old new
-  pub knows : KnowsFiles s (page_of new.view) area new.map new.inodes new.files
-
-abbrev pub HomeLaw : Type 0
-HomeLaw = (s : Super) (area : ℕ → ℕ) (old new : Parts) → KnowsFiles s (page_of old.view) area old.map old.inodes old.files → IsConsistent (readers (blocks_of s)) (volume_of (page_of old.view) area old.map old.inodes)
-    → NoneFreed area old → Settles old new → StaysShown ⊤ old new → WritesMaps old new → IsHome s area old new
-
--- So a volume of whose maps' files all is known, and which is consistent before and after, is settled then.
-abbrev pub SyncedLaw : Type 0
-SyncedLaw = (s : Super) (area : ℕ → ℕ) (old new : Parts) → KnowsFiles s (page_of old.view) area old.map old.inodes old.files → IsConsistent (readers (blocks_of s)) (volume_of (page_of old.view) area old.map old.inodes)
-    → PutsMapsHome area old new → IsConsistent (readers (blocks_of s)) (volume_of (page_of new.view) area new.map new.inodes) → IsSettled s (page_of new.view) area new.map new.inodes
-
--- All is known of the maps' files also where a syncpoint failed.
+-- Where all was known of the maps' files it is behind a syncpoint, also behind one that failed.
 abbrev pub StillKnownLaw : Type 0
 StillKnownLaw = (s : Super) (area : ℕ → ℕ) (old new : Parts) → KnowsFiles s (page_of old.view) area old.map old.inodes old.files → IsConsistent (readers (blocks_of s)) (volume_of (page_of old.view) area old.map old.inodes)
     → NoneFreed area old → Settles old new → StaysShown ⊤ old new → LeavesMaps old new → KnowsFiles s (page_of new.view) area new.map new.inodes new.files

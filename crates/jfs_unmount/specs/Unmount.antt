@@ -1,18 +1,23 @@
 -- A volume that was unmounted, and one that wasn't.
-use Rattle.std.specs.Prelude.{◌≡◌, ◌≢◌, ◌⊎◌, ◌<◌, ◌+◌, ◌-◌, ◌^◌, ◌++◌, ℕ, List, set, min, None, Result, Ok, Err}
+use Rattle.std.specs.Prelude.{◌≡◌, ◌≢◌, ◌⊎◌, ◌<◌, ◌+◌, ◌-◌, ◌^◌, ◌++◌, ℕ, List, set, min, None, false, Result, Ok, Err}
 use Rattle.jfs_bits.specs.Count.{Rose}
 use Rattle.jfs_disk.specs.Image.{Image, page_of}
-use Rattle.jfs_disk.specs.Crash.{DiskState, last_of, Leaves, TearsPage}
+use Rattle.jfs_disk.specs.Crash.{DiskState, IsCrashImage, last_of, Leaves, TearsPage}
 use Rattle.jfs_disk.specs.Moment.{IsResting}
 use Rattle.jfs_disk.specs.declared.disk.Fault.{Fault}
-use Rattle.jfs_disk.specs.declared.disk.Part.TheVariants.{Low, High}
+use Rattle.jfs_disk.specs.declared.disk.Part.TheVariants.{Low}
+use Rattle.jfs_super.specs.Super.{super_of}
 use Rattle.jfs_mounted.specs.pages.specs.Dirty.{dirty_of}
 use Rattle.jfs_volume_calls.specs.halves.specs.Parts.{Parts}
 use Rattle.jfs_volume_calls.specs.halves.specs.Log.{LogParts}
-use Rattle.jfs_volume_calls.specs.Together.{AreTogether, OfBothHalves}
-use Rattle.jfs_volume_calls.specs.Syncpoint.{SyncpointIs}
-use Rattle.jfs_volume_calls.specs.Written.{WritesMaps}
-use Rattle.jfs_volume_calls.specs.volume.specs.Settles.{Settles, StaysShown}
+
+-- ---- before it
+
+-- No page is dirty, and the pages of each map that had changed are written.
+pub record IsAllHome (p : Parts) : Type 0 where
+  pub clean : (q : ℕ) → dirty_of p.dirty q ≡ None
+  pub block_map : p.files.blocks.stale ≡ false
+  pub inode_map : p.files.inodes.stale ≡ false
 
 -- ---- the superblock's page
 
@@ -27,55 +32,41 @@ MarksClean superblock old new (Err fault) = TearsPage 8 superblock old new
 
 -- ---- at Ok
 
--- Both parts as a syncpoint leaves them: no page is dirty, and the log has all that groups took. Entries and maps stay, but for busy blocks; each map that had changed is shown by its pages, and all other pages stay, but for those that entries freed.
-pub record Pointed (tells crashes : Type 0) (old : Parts) (log : LogParts) : Type 0 where
-  pub volume : Parts
-  pub side : LogParts
-  pub pointed : OfBothHalves tells crashes old log (λ seen asked both. SyncpointIs seen asked old volume side both (Ok tt))
-  pub clean : (p : ℕ) → dirty_of volume.dirty p ≡ None
-  pub together : AreTogether volume side
-  pub settles : Settles old volume
-  pub shown : StaysShown tells old volume
-  pub maps : tells → WritesMaps old volume
-
--- Then the superblock's page is put into its place: the disk has the pages that the volume shows, but for that one, and behind them the log. Nothing of the low part is pending.
+-- The superblock's page is put into its place: the disk has the pages that the volume shows, but for that one, and behind them the log. Nothing of the low part is pending.
 pub record Ends (tells crashes : Type 0) (superblock : List ℕ) (old : Parts) (log : LogParts) (image : Image) (past : List DiskState) : Type 0 where
-  pub point : Pointed tells crashes old log
-  pub image_is : tells → image ≡ with_super superblock point.volume.disk ++ point.side.image
+  pub image_is : tells → image ≡ with_super superblock old.disk ++ log.image
   pub superblock_is : tells → page_of image 8 ≡ superblock
-  pub pages_are : tells → (b : ℕ) → b ≢ 8 → b < point.volume.blocks → page_of image b ≡ page_of point.volume.view b
+  pub pages_are : tells → (b : ℕ) → b ≢ 8 → b < old.blocks → page_of image b ≡ page_of old.view b
   pub low : DiskState
   pub rests : crashes → IsResting low
-  pub state : crashes → last_of past ≡ low ++ last_of point.side.past
+  pub state : crashes → last_of past ≡ low ++ last_of log.past
 
 -- ---- at Err
 
--- A part's count rose to the fault's, and the other one's stayed; the disk, joined again, has the counts of both.
-abbrev pub IsOwnFault : ℕ → ℕ → ℕ → Fault → Type 0
-IsOwnFault own other now fault = Rose own fault.count × (now ≡ min (fault.count + other) (2 ^ 64 - 1))
-
+-- The low part's count rose to the fault's; the disk, joined again, has the counts of both.
 pub record IsUnmountCause (low high now : ℕ) (fault : Fault) : Type 0 where
-  pub part : ((fault.part ≡ Low) × IsOwnFault low high now fault) ⊎ ((fault.part ≡ High) × IsOwnFault high low now fault)
+  pub part : fault.part ≡ Low
+  pub own : Rose low fault.count
+  pub now_is : now ≡ min (fault.count + high) (2 ^ 64 - 1)
   pub rose : Rose (min (low + high) (2 ^ 64 - 1)) now
 
--- the syncpoint failed: the disk has both parts as it left them
-pub record StopsAtPoint (tells crashes : Type 0) (old : Parts) (log : LogParts) (fault : Fault) (image : Image) (past : List DiskState) : Type 0 where
-  pub volume : Parts
-  pub side : LogParts
-  pub stopped : OfBothHalves tells crashes old log (λ seen asked both. SyncpointIs seen asked old volume side both (Err fault))
-  pub image_is : tells → image ≡ volume.disk ++ side.image
-  pub state : crashes → last_of past ≡ last_of volume.past ++ last_of side.past
-
--- The superblock's page wasn't put into its place, or the last sync failed: of the low part a read gives front sectors of that page over the old one, and so does a crash, where nothing else was pending.
-pub record StopsAtMark (tells crashes : Type 0) (superblock : List ℕ) (old : Parts) (log : LogParts) (fault : Fault) (image : Image) (past : List DiskState) : Type 0 where
-  pub point : Pointed tells crashes old log
-  pub part : fault.part ≡ Low
+-- A read of the low part gives front sectors of the superblock's new page over the old one, and all else as it was.
+pub record IsUnended (superblock : List ℕ) (old : Parts) (log : LogParts) (image : Image) : Type 0 where
   pub low : Image
-  pub torn : tells → TearsPage 8 superblock point.volume.disk low
-  pub image_is : tells → image ≡ low ++ point.side.image
-  pub now : DiskState
-  pub left : tells → crashes → IsResting (last_of point.volume.past) → Leaves (TearsPage 8 superblock point.volume.disk) now
-  pub state : crashes → last_of past ≡ now ++ last_of point.side.past
+  pub torn : TearsPage 8 superblock old.disk low
+  pub image_is : image ≡ low ++ log.image
 
-abbrev pub IsUnended : (tells crashes : Type 0) → List ℕ → Parts → LogParts → Fault → Image → List DiskState → Type 0
-IsUnended tells crashes superblock old log fault image past = StopsAtPoint tells crashes old log fault image past ⊎ StopsAtMark tells crashes superblock old log fault image past
+-- ---- what a crash leaves
+
+-- A superblock that says what the new one says, and the pages that the volume shows.
+pub record IsMarkedLeft (superblock : List ℕ) (old : Parts) (left : Image) : Type 0 where
+  pub superblock_is : super_of (page_of left 8) ≡ super_of superblock
+  pub pages_are : (b : ℕ) → b ≢ 8 → b < old.blocks → page_of left b ≡ page_of old.view b
+
+-- That, or what it may leave of both parts as they were.
+abbrev pub MayBeMarked : List ℕ → Parts → LogParts → Image → Type 0
+MayBeMarked superblock old log left = IsCrashImage (last_of old.past ++ last_of log.past) left ⊎ IsMarkedLeft superblock old left
+
+-- So it is of a disk in this state, where nothing of the low part was pending.
+abbrev pub LeavesMarked : (tells crashes : Type 0) → List ℕ → Parts → LogParts → DiskState → Type 0
+LeavesMarked tells crashes superblock old log state = tells → crashes → IsResting (last_of old.past) → Leaves (MayBeMarked superblock old log) state

@@ -6,9 +6,7 @@ mod leaving;
 mod unmounting;
 
 pub use law::{
-    failed_syncpoints_leave_what_is_known, mounts_know_the_files_of_maps,
-    settled_pages_have_the_tree, syncpoints_put_maps_home, syncpoints_settle_maps,
-    unmounts_keep_the_tree,
+    mounts_know_the_files_of_maps, settled_pages_have_the_tree, syncpoints_leave_what_is_known,
 };
 pub use leaving::leave;
 pub use unmounting::{Unended, unmount};

@@ -1,16 +1,15 @@
 //! A mounted volume is unmounted.
 
-ghost use Rattle.std.specs.Prelude.{◌≡◌, ◌≤◌, ◌<◌, ◌+◌, ◌-◌, ◌*◌, ◌^◌, min, length, set, IfOk, IfErr, OnOk, None};
+ghost use Rattle.std.specs.Prelude.{◌≡◌, ◌≤◌, ◌<◌, ◌+◌, ◌-◌, ◌^◌, min, length, IfOk, IfErr, OnOk};
 ghost use Rattle.jfs_disk.specs.Crash.{last_of, AllSince, TearsPage};
 ghost use Rattle.jfs_disk.specs.Moment.{IsResting, now_of};
 ghost use Rattle.jfs_disk.specs.declared.disk.Part.TheVariants.{Low};
 ghost use Rattle.jfs_mounted.specs.pages.specs.Device.{HasFault};
-ghost use Rattle.jfs_volume_calls.specs.Together.{AreTogether, log_parts};
-ghost use Rattle.jfs_unmount.specs.Unmount.{Ends, IsUnended, IsUnmountCause, MarksClean};
+ghost use Rattle.jfs_volume_calls.specs.Together.{log_parts};
+ghost use Rattle.jfs_unmount.specs.Unmount.{Ends, IsAllHome, IsUnended, IsUnmountCause, LeavesMarked, MarksClean};
 
 use jfs_disk::{Disk, Fault, Page, Part};
 use jfs_mounted::Mounted;
-use jfs_volume_calls::{PointText, leave, syncpoint};
 
 /// A disk whose volume was not unmounted, and the fault that kept it. It is handed back in one piece.
 #[derive(Drop)]
@@ -22,43 +21,28 @@ pub struct Unended<D> {
 /// The page of the superblock.
 const SUPERBLOCK: u32 = 8;
 
-/// Unmounts a volume: all entries are made durable, all pages go home and are synced, and a SYNCPT is logged; then the superblock's page, which is handed in as it was when the volume was mounted, is put back
-/// with its state 0, and synced. It takes no memory.
+/// Unmounts a volume all of whose pages are home, as a syncpoint leaves it: the superblock's page, which is handed in as it was when the volume was mounted, is put back with its state 0, and synced. It takes no memory.
 ///
 /// # Errors
 ///
-/// A write or a sync of either part failed. The superblock goes on saying that the volume is mounted, unless its own write or the last sync failed.
-pub fn unmount<D: Disk>(
-    m: Mounted<D>,
-    point: &mut PointText,
-    superblock: &Page,
-) -> Result<D, Unended<D>>
-    requires together { AreTogether m.volume (log_parts D.Disk m.log) }
-    requires running { m.volume.halted ≡ None }
-    requires text { m.volume.text.place + length m.volume.text.bytes + 72 ≤ 4080 * 2 ^ 32 }
+/// That write or that sync failed. The superblock may say either.
+pub fn unmount<D: Disk>(m: Mounted<D>, superblock: &Page) -> Result<D, Unended<D>>
+    requires home { IsAllHome m.volume }
     requires there { 8 < m.volume.count }
     requires room { m.volume.count + D.page_count m.log.part ≤ m.volume.room }
 
     ensures pages { IfOk result (λ disk. D.page_count disk ≡ m.volume.count + D.page_count m.log.part) }
     ensures faults { IfOk result (λ disk. D.fault_count disk ≡ min (m.volume.faults + D.fault_count m.log.part) (2 ^ 64 - 1)) }
     ensures ends { IfOk result (λ disk. Ends D.tells D.tells_crashes superblock.now.0 m.volume (log_parts D.Disk m.log) (D.image disk) (D.past disk)) }
+    // Where nothing of the low part was pending, a crash leaves what it may leave of both parts as they were, or a superblock that says what the new one says.
+    ensures left { IfOk result (λ disk. LeavesMarked D.tells D.tells_crashes superblock.now.0 m.volume (log_parts D.Disk m.log) (last_of (D.past disk))) }
 
     ensures same_size { IfErr result (λ not. D.page_count not.disk ≡ m.volume.count + D.page_count m.log.part) }
     ensures cause { IfErr result (λ not. IsUnmountCause m.volume.faults (D.fault_count m.log.part) (D.fault_count not.disk) not.fault) }
-    ensures unended { IfErr result (λ not. IsUnended D.tells D.tells_crashes superblock.now.0 m.volume (log_parts D.Disk m.log) not.fault (D.image not.disk) (D.past not.disk)) }
+    ensures unended { IfErr result (λ not. D.tells → IsUnended superblock.now.0 m.volume (log_parts D.Disk m.log) (D.image not.disk)) }
+    ensures left_unended { IfErr result (λ not. LeavesMarked D.tells D.tells_crashes superblock.now.0 m.volume (log_parts D.Disk m.log) (last_of (D.past not.disk))) }
 {
     let Mounted { volume, log } = m;
-    let mut volume = volume;
-    let mut log = log;
-    match syncpoint(&mut volume, &mut log, point) {
-        Ok(()) => {}
-        Err(fault) => {
-            return Err(Unended {
-                disk: leave(volume, log),
-                fault,
-            });
-        }
-    }
     let mut low = volume.into_low();
     match mark_clean(&mut low, superblock) {
         Ok(()) => Ok(D::join(low, log.into_part())),
@@ -79,6 +63,7 @@ fn mark_clean<D: Disk>(low: &mut D, superblock: &Page) -> Result<(), Fault>
     ensures moments { D.tells → D.tells_crashes → IsResting (last_of (D.past low.old)) → AllSince (TearsPage 8 superblock.now.0 (D.image low.old)) (D.past low.new) (now_of (D.past low.old)) }
     ensures later { D.tells_crashes → now_of (D.past low.old) ≤ now_of (D.past low.new) }
     ensures cause { HasFault (D.fault_count low.old) (D.fault_count low.new) result }
+    ensures size { length superblock.now.0 ≡ 4096 }
 {
     // so that its size is known
     let _bytes = superblock.bytes();

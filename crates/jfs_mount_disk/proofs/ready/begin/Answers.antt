@@ -9,7 +9,7 @@ use Rattle.jfs_disk.specs.declared.disk.Fault.{Fault}
 use Rattle.jfs_super.specs.declared.fields.Geometry.{Geometry}
 use Rattle.jfs_mount_disk.specs.Begun.{IsCause, IsPartFault, IsPartlyMarked}
 use Rattle.jfs_mount_disk.proofs.Parts.{pages_stay, part_cause, cause_stays, low_rests, high_rests, low_now, high_now}
-use Rattle.jfs_mount_disk.proofs.Left.{still_low, whole_left, at_end, low_rested, high_rested, low_left, log_left}
+use Rattle.jfs_mount_disk.proofs.Left.{still_low, whole_left, at_end, low_rested, high_rested, low_left, log_left, low_not_high}
 use Rattle.jfs_mount_disk.proofs.ready.begin.Goals as goal
 
 -- what is said of the log's place is said of the superblock's
@@ -105,6 +105,19 @@ returns-in-Err-fresh-clause-left_low g c = λ t k rests left crash.
     (g.met.D.Disk.reads_now low k) ((g.met.D.Disk.has_pages low t).number ∙ c.in-Ok.ensures.pages.0) crash resting ∙ (c.in-Ok.ensures.image t).0 in
     still_low s old left (place_of (λ (p : Pxd). take p.addr left ≡ take p.addr old) log s.logpxd (ap (λ (l : Geometry). l.log) c.geometry.ensures.layout) stays)
 
+pub returns-in-Err-fresh-clause-left_high : goal.returns-in-Err-fresh-clause-left_high
+returns-in-Err-fresh-clause-left_high g c = λ t k rests left crash high.
+    let s = c.args.s.now in
+    let old = g.D.Disk.image c.args.disk in
+    let log = c.geometry.result.log in
+    let low = c.in-Ok.parts.0 in
+    let low_past = g.D.Disk.past low in
+    let is = (c.in-Ok.ensures.past k).0 in
+    let resting = low_rests log.addr (g.D.Disk.past c.args.disk) low_past (g.met.D.Disk.has_state c.args.disk k) is rests in
+    let stays : take log.addr left ≡ take log.addr old = low_rested log.addr (g.D.Disk.image low) (last_of (g.D.Disk.past c.join.result)) low_past (g.D.Disk.past c.in-Err-fresh.refused.part) left (c.join.ensures.state k)
+    (g.met.D.Disk.reads_now low k) ((g.met.D.Disk.has_pages low t).number ∙ c.in-Ok.ensures.pages.0) crash resting ∙ (c.in-Ok.ensures.image t).0 in
+    place_of (λ (p : Pxd). take p.addr left ≡ take p.addr old) log s.logpxd (ap (λ (l : Geometry). l.log) c.geometry.ensures.layout) stays
+
 pub returns-in-Err-fresh-clause-left_log : goal.returns-in-Err-fresh-clause-left_log
 returns-in-Err-fresh-clause-left_log g c = λ t k rests left crash low. absurd (cc (low, ap (λ (f : Fault). f.part) c.in-Err-fresh.ensures.cause.1))
 
@@ -149,3 +162,7 @@ returns-in-Err-mark_mounted-clause-left_log g c = λ t k rests left crash.
     log_left s old left c.in-Err-mark_mounted.why
     (place_of (λ (p : Pxd). IsFreshLog p.len s.uuid (drop p.addr left)) log s.logpxd (ap (λ (l : Geometry). l.log) c.geometry.ensures.layout)
     (subst (λ (im : Image). IsFreshLog log.len s.uuid im) (sym stays) (c.in-Ok-fresh.ensures.image t)))
+
+pub returns-in-Err-mark_mounted-clause-left_high : goal.returns-in-Err-mark_mounted-clause-left_high
+returns-in-Err-mark_mounted-clause-left_high g c = λ t k rests left crash.
+    low_not_high c.args.s.now (g.D.Disk.image c.args.disk) left (g.D.Disk.fault_count c.in-Ok.parts.0) (g.D.Disk.fault_count c.mark_mounted.new.low) c.in-Err-mark_mounted.why c.in-Err-mark_mounted.ensures.cause

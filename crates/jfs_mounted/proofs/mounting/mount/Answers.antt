@@ -7,12 +7,12 @@ use Rattle.jfs_super.specs.Super.{super_of}
 use Rattle.jfs_super.specs.declared.fields.Geometry.{Geometry}
 use Rattle.jfs_logpages.specs.Fresh.{IsPartlyFresh}
 use Rattle.jfs_logpages.specs.declared.log_side.LogSide.{LogSide}
-use Rattle.jfs_mount_disk.specs.Begun.{marked, IsPartlyMarked}
+use Rattle.jfs_mount_disk.specs.Begun.{marked, IsPartlyMarked, LeavesUntouched as OfBegin}
 use Rattle.jfs_mount_disk.proofs.Left.{still_low}
 use Rattle.jfs_volume.specs.Start.{StandsFresh}
-use Rattle.jfs_mounted.specs.Mount.{LeavesLog}
+use Rattle.jfs_mounted.specs.Mount.{LeavesLog, LeavesUntouched, WasCut}
 use Rattle.jfs_mounted.specs.declared.mounted.MountError.{MountError}
-use Rattle.jfs_mounted.proofs.Started.{files_of_low, still, log_fresh_of, keeps_with, before_left}
+use Rattle.jfs_mounted.proofs.Started.{files_of_low, still, log_fresh_of, keeps_with, before_left, before_untouched, before_cut, untouched_of}
 use Rattle.jfs_mounted.proofs.mounting.mount.Goals as goal
 
 pub returns-in-Err-clause-left_low : goal.returns-in-Err-clause-left_low
@@ -31,6 +31,30 @@ returns-in-Err-clause-left_log g c = λ t k rests left crash.
     subst (λ (why : MountError). LeavesLog s old why left) (sym c.refusal_of.ensures)
     (before_left s old left (g.D.Disk.fault_count c.args.disk) (g.D.Disk.fault_count now) c.in-Err.why c.in-Err.ensures.fault
     (still old (g.D.Disk.image now) (g.D.Disk.past c.args.disk) (g.D.Disk.past now) (c.in-Err.ensures.past k) rests (g.met.D.Disk.reads_now now k) (c.in-Err.ensures.image t) left crash))
+
+pub returns-in-Err-clause-left_high : goal.returns-in-Err-clause-left_high
+returns-in-Err-clause-left_high g c = λ t k rests left crash.
+    let s = c.args.s.now in
+    let old = g.D.Disk.image c.args.disk in
+    subst (λ (why : MountError). LeavesUntouched s old why left) (sym c.refusal_of.ensures)
+    (before_untouched s old left (g.D.Disk.fault_count c.args.disk) (g.D.Disk.fault_count c.find_maps_on.new.disk) c.in-Err.why c.in-Err.ensures.fault)
+
+pub returns-in-Err-clause-found : goal.returns-in-Err-clause-found
+returns-in-Err-clause-found g c = λ t cut.
+    absurd (before_cut (g.D.Disk.fault_count c.args.disk) (g.D.Disk.fault_count c.find_maps_on.new.disk) c.in-Err.why c.in-Err.ensures.fault (subst (λ (why : MountError). WasCut why) c.refusal_of.ensures cut))
+
+pub returns-in-Err-begin-clause-found : goal.returns-in-Err-begin-clause-found
+returns-in-Err-begin-clause-found g c = λ t cut. record { maps = c.in-Ok.maps; rest = c.in-Ok.ensures.rest; are = c.in-Ok.ensures.maps t }
+
+pub returns-in-Err-begin-clause-left_high : goal.returns-in-Err-begin-clause-left_high
+returns-in-Err-begin-clause-left_high g c = λ t k rests left crash.
+    let s = c.args.s.now in
+    let old = g.D.Disk.image c.args.disk in
+    let now = c.find_maps_on.new.disk in
+    subst (λ (why : MountError). LeavesUntouched s old why left) (sym c.failure_of.ensures)
+    (untouched_of s old left c.in-Err-begin.not.why
+    (subst (λ (im : Image). OfBegin s im c.in-Err-begin.not.why left) (c.in-Ok.ensures.image t)
+    (c.in-Err-begin.ensures.left_high t k (subst (λ (states : List DiskState). IsResting (last_of states)) (sym (c.in-Ok.ensures.past k)) rests) left crash)))
 
 pub returns-in-Ok-begin-clause-mounted : goal.returns-in-Ok-begin-clause-mounted
 returns-in-Ok-begin-clause-mounted g c =

@@ -12,7 +12,7 @@ pub returns-then-appended-ge-LAST_ENTRY-clause-answered : goal.returns-then-appe
 returns-then-appended-ge-LAST_ENTRY-clause-answered g c = unanswered c.args.client c.args.line c.args.request.now c.args.shared.now.volume
 
 pub returns-in-NoMemory-clause-list : goal.returns-in-NoMemory-clause-list
-returns-in-NoMemory-clause-list g c = lacked_is g.D.Disk c.args.shared.now c.args.client c.args.line c.args.request.now c.args.now c.call_without_log.new.volume c.in-NoMemory.ensures.answered c.in-NoMemory.ensures.does
+returns-in-NoMemory-clause-list g c = lacked_is g.D.Disk c.args.shared.now c.args.client c.args.line c.args.request.now c.args.now c.call_without_log.new.volume (sym c.is_broken_off.ensures ∙ c.if-is_broken_off.false) c.requires.fits.0 (omega (arith, c.appended.ensures, c.if-appended-ge-LAST_ENTRY.false)) c.in-NoMemory.ensures.answered c.in-NoMemory.ensures.does
 
 pub returns-in_default-clause-list : goal.returns-in_default-clause-list
 returns-in_default-clause-list g c = call_is g.D.Disk c.args.shared.now c.args.client c.args.line c.args.request.now c.args.now c.call_without_log.new.volume c.call_without_log.result c.in_default.not-NoMemory (sym c.is_broken_off.ensures ∙ c.if-is_broken_off.false) c.requires.fits.0 (omega (arith, c.appended.ensures, c.if-appended-ge-LAST_ENTRY.false)) c.call_without_log.ensures.answered c.call_without_log.ensures.does

@@ -1,5 +1,5 @@
 use Rattle.std.proofs.Common.{arith}
-use Rattle.jfs_shared.proofs.Pointed.{settled, not_committed, home_are, home_settles, not_home, nothing_left, same_end, all_told, point_ends, point_is, committed_told}
+use Rattle.jfs_shared.proofs.Pointed.{settled, not_committed, home_are, home_settles, not_home, nothing_left, same_end, all_told, point_ends, point_is, committed_told, home_behind, rests_behind}
 use Rattle.jfs_shared.proofs.pointing.point_with.Goals as goal
 
 pub returns-in-Err-clause-point : goal.returns-in-Err-clause-point
@@ -33,7 +33,7 @@ write_point-requires-clause-together g c =
       home_are g.D.Disk c.args.shared.now c.args.log.now c.requires.running.0 t.0 t.1 c.commit_with.new.shared c.commit_with.new.log (c.in-Ok.ensures.commit t.0 t.1) c.settle.new.volume c.settle.ensures.parts
           c.in-Ok-settle.ensures.cause c.in-Ok-settle.ensures.halts c.settle.ensures.settles c.settle.ensures.shown c.settle.ensures.leaves c.settle.ensures.history,
       home_settles g.D.Disk c.args.shared.now c.args.log.now c.requires.running.0 t.0 t.1 c.commit_with.new.shared c.commit_with.new.log (c.in-Ok.ensures.commit t.0 t.1) c.settle.new.volume c.settle.ensures.parts
-          c.settle.ensures.settles c.settle.ensures.shown c.settle.ensures.leaves c.in-Ok-settle.ensures.settled,
+          c.in-Ok-settle.ensures.halts c.settle.ensures.settles c.settle.ensures.shown c.settle.ensures.leaves c.in-Ok-settle.ensures.settled,
     )
 
 pub settle-requires-clause-told : goal.settle-requires-clause-told
@@ -49,5 +49,16 @@ returns-clause-point g c =
     (home_are g.D.Disk c.args.shared.now c.args.log.now c.requires.running.0 n k c.commit_with.new.shared c.commit_with.new.log (c.in-Ok.ensures.commit n k) c.settle.new.volume c.settle.ensures.parts
     c.in-Ok-settle.ensures.cause c.in-Ok-settle.ensures.halts c.settle.ensures.settles c.settle.ensures.shown c.settle.ensures.leaves c.settle.ensures.history)
     (home_settles g.D.Disk c.args.shared.now c.args.log.now c.requires.running.0 n k c.commit_with.new.shared c.commit_with.new.log (c.in-Ok.ensures.commit n k) c.settle.new.volume c.settle.ensures.parts
-    c.settle.ensures.settles c.settle.ensures.shown c.settle.ensures.leaves c.in-Ok-settle.ensures.settled)
+    c.in-Ok-settle.ensures.halts c.settle.ensures.settles c.settle.ensures.shown c.settle.ensures.leaves c.in-Ok-settle.ensures.settled)
     c.write_point.ensures.point)
+
+-- ---- behind it
+
+pub returns-clause-home : goal.returns-clause-home
+returns-clause-home g c = home_behind c.write_point.result c.settle.new.volume c.write_point.new.shared.volume c.in-Ok-settle.ensures.home c.write_point.ensures.pages
+
+pub returns-clause-rests : goal.returns-clause-rests
+returns-clause-rests g c =
+    rests_behind g.D.Disk c.args.shared.now c.args.log.now c.write_point.result c.settle.new.volume c.commit_with.new.shared c.write_point.new.shared c.write_point.ensures.pages
+    (λ n k. home_settles g.D.Disk c.args.shared.now c.args.log.now c.requires.running.0 n k c.commit_with.new.shared c.commit_with.new.log (c.in-Ok.ensures.commit n k) c.settle.new.volume c.settle.ensures.parts
+    c.in-Ok-settle.ensures.halts c.settle.ensures.settles c.settle.ensures.shown c.settle.ensures.leaves c.in-Ok-settle.ensures.settled)

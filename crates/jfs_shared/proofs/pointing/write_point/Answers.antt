@@ -44,3 +44,13 @@ pub overflow_add-shared : goal.overflow_add-shared
 overflow_add-shared g c =
     let m = meets g.D.Disk c.args.shared.now c.args.log.now c.requires.running.0 c.requires.empty c.requires.told c.requires.room (c.requires.together.0, c.requires.together.1) in
     omega (arith, m.points, c.requires.room)
+
+pub returns-in-Ok-clause-pages : goal.returns-in-Ok-clause-pages
+returns-in-Ok-clause-pages g c =
+    let taken = c.take_point.ensures.parts in
+    let known = c.know_points.ensures.parts in
+    record {
+      dirty = ap (λ (p : Parts). p.dirty) known ∙ ap (λ (p : Parts). p.dirty) taken;
+      files = ap (λ (p : Parts). p.files) known ∙ ap (λ (p : Parts). p.files) taken;
+      past = ap (λ (p : Parts). p.past) known ∙ ap (λ (p : Parts). p.past) taken;
+    }

@@ -1,6 +1,6 @@
 use Rattle.std.proofs.Common.{refl, Err}
 use Rattle.jfs_volume_calls.proofs.Kept.{Stands, homed, mapped, group_settles, group_pages, as_kept, kept_home, maps_stand, same_home, stand_on}
-use Rattle.jfs_shared.proofs.Homed.{homes, maps, onward}
+use Rattle.jfs_shared.proofs.Homed.{homes, maps, onward, home_of}
 use Rattle.jfs_shared.proofs.Settled as settled
 use Rattle.jfs_shared.proofs.settling.settle.Goals as goal
 
@@ -70,3 +70,8 @@ returns-clause-settled g c =
     settled.settles g.D.Disk.tells g.D.Disk.tells_crashes c.args.volume.now c.home_all.new.self c.requires.told c.requires.running c.in-Ok.ensures.home c.home_all.ensures.alone c.in-Ok.ensures.halts c.in-Ok.ensures.clean
     c.home_maps.new.self c.in-Ok-home_maps.ensures.home c.home_maps.ensures.memory c.home_maps.ensures.places c.in-Ok-home_maps.ensures.written c.in-Ok-home_maps.ensures.halts
     c.sync_low.new.self c.sync_low.ensures.alone c.sync_low.result c.sync_low.ensures.sync c.sync_low.ensures.halts
+
+-- ---- all is home
+
+pub returns-clause-home : goal.returns-clause-home
+returns-clause-home g c = home_of c.home_all.new.self c.home_maps.new.self c.sync_low.new.self c.in-Ok.ensures.clean c.home_maps.ensures.memory c.in-Ok-home_maps.ensures.written c.sync_low.ensures.kept c.sync_low.ensures.alone.parts c.sync_low.result

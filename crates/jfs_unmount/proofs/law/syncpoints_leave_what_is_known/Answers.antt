@@ -1,5 +1,5 @@
 use Rattle.jfs_unmount.proofs.Synced.{still_known_law}
-use Rattle.jfs_unmount.proofs.law.failed_syncpoints_leave_what_is_known.Goals as goal
+use Rattle.jfs_unmount.proofs.law.syncpoints_leave_what_is_known.Goals as goal
 
 pub returns : goal.returns
 returns c = still_known_law

@@ -1,9 +1,8 @@
--- A volume that was mounted from an image on which a check finds nothing is held, and has its maps.
+-- A volume that was mounted from a keepable image is held, and has its maps.
 use Rattle.std.specs.Bool.{⊤}
-use Rattle.std.proofs.Common.{◌≡◌, ◌≤◌, ◌<◌, ◌+◌, ◌-◌, nat_lt, not, ℕ, suc, true, List, length, take, is_some, refl, sym, ap, ◌∙◌, arith}
-use Rattle.std.proofs.lemmas.Bool.{eqb-true, ltb-true, and_parts}
+use Rattle.std.proofs.Common.{◌≡◌, ◌≤◌, ◌<◌, ◌-◌, nat_lt, not, ℕ, length, take, None, ap, ◌∙◌, arith}
+use Rattle.std.proofs.lemmas.Bool.{ltb-true, and_parts}
 use Rattle.std.proofs.lemmas.List.{length-set, length-take}
-use Rattle.jfs_bits.specs.Broken.{AllHold, Holds}
 use Rattle.jfs_disk.specs.Image.{Image, page_of}
 use Rattle.jfs_super.specs.Rules.{blocks_of}
 use Rattle.jfs_super.specs.declared.fields.Super.{Super}
@@ -12,14 +11,8 @@ use Rattle.jfs_volume_calls.specs.halves.specs.Log.{LogParts}
 use Rattle.jfs_volume_calls.specs.halves.specs.Parts.{Parts}
 use Rattle.jfs_unmount.specs.mounted.specs.Mount.{IsMountOf}
 use Rattle.jfs_unmount.specs.mounted.proofs.Started.{marked_same}
-use Rattle.jfs_findings_new.specs.findings.proofs.Tidy.{consistent_law}
-use Rattle.jfs_findings_new.specs.findings.specs.Clean.{IsSoundVolume}
-use Rattle.jfs_mount.specs.Mount.{place, covered, iags, map_rows}
+use Rattle.jfs_mount.specs.Mount.{broken_mount}
 use Rattle.jfs_mount.specs.Subject.{Subject, subject_of}
-use Rattle.jfs_mount.proofs.Passed.{all_pass}
-use Rattle.jfs_agree.proofs.Agreed.{sound_law}
-use Rattle.jfs_checked_maps.proofs.Past.{past_law}
-use Rattle.jfs_shown.specs.bmap.specs.MapFile.{pages_of, is_in_use}
 use Rattle.jfs_shown.specs.kinds.specs.Images.{HasWholeFiles}
 use Rattle.jfs_shown.specs.meaning.specs.Image as meaning
 use Rattle.jfs_shown.specs.meaning.specs.Readers.{readers}
@@ -33,15 +26,15 @@ use Rattle.jfs_held_maps.proofs.Mounted.{mounted_law as has_maps}
 use Rattle.jfs_joined_held.specs.Held.{volume_at}
 use Rattle.jfs_mounted_places.specs.Mounted.{SetsPast, mount_of}
 use Rattle.jfs_mounted_places.specs.Places.{groups_of, places_of}
-use Rattle.jfs_mounted_places.proofs.Places.{in_file}
 use Rattle.jfs_held_volumes.specs.survival.specs.recovery.specs.Face.{Pages}
 use Rattle.jfs_shown.specs.objects.specs.Readers.{Readers}
 use Rattle.jfs_mounted_held.specs.Mounted.{low_of, from_mount, shown_by, IsSoundMount}
 use Rattle.jfs_mounted_held.proofs.Mounted.{mounted_law as is_held, low_is, is_mounted}
-use Rattle.jfs_mounted_maps.specs.Checked.{IsCheckedMount, IsHeldFromMount, CheckedLaw}
-use Rattle.jfs_mounted_maps.proofs.Rules.{maps_hold, unbroken, past, bytes}
+use Rattle.jfs_mounted_maps.specs.Keepable.{IsKeepableMount, IsHeldFromMount, MountedLaw}
+use Rattle.jfs_mounted_maps.proofs.Keepable.{has_map_pages}
+use Rattle.jfs_mounted_maps.proofs.Rules.{unbroken, past, bytes}
 
-module _ (s : Super) (old : Image) (p : Parts) (log : LogParts) (m : IsMountOf ⊤ ⊥ s old p log) (checked : IsCheckedMount s old m.pages) where
+module _ (s : Super) (old : Image) (p : Parts) (log : LogParts) (m : IsMountOf ⊤ ⊥ s old p log) (to : IsKeepableMount s old m.pages) where
   abbrev pub r : Readers
   r = readers (blocks_of s)
 
@@ -54,23 +47,23 @@ module _ (s : Super) (old : Image) (p : Parts) (log : LogParts) (m : IsMountOf �
   abbrev pub area : ℕ → ℕ
   area = (meaning.volume_of s (page_of old)).area
 
-  volume : IsSoundVolume sub
-  volume = checked.sound
-
   consistent : meaning.IsConsistentImage s (page_of old)
-  consistent = consistent_law.consistent s (page_of old) volume
+  consistent = to.keepable.consistent
 
   files : HasWholeFiles r (page_of old)
-  files = record { block_map = volume.files 2 (0, omega arith, refl); bad_blocks = volume.files 4 (1, omega arith, refl); inode_map = volume.files 16 (2, omega arith, refl) }
+  files = to.keepable.files
+
+  mounts : broken_mount sub ≡ None
+  mounts = (m.found tt).unbroken
 
   -- ---- the pages that are shown are those of the image, but for the superblock's
 
   inside : blocks_of s ≤ s.logpxd.addr
-  inside = (accepted_layout s (length old) checked.accepted).behind
+  inside = (accepted_layout s (length old) to.accepted).behind
 
   room : blocks_of s ≤ length m.pages
   room =
-      let ends = accepted_log s (length old) checked.accepted in
+      let ends = accepted_log s (length old) to.accepted in
       let pages = ap (λ (image : Image). length image) (m.marked tt) ∙ length-set (take s.logpxd.addr old) 8 _ in
       let front = length-take s.logpxd.addr old in
       omega (arith, inside, ends, pages, front)
@@ -80,27 +73,20 @@ module _ (s : Super) (old : Image) (p : Parts) (log : LogParts) (m : IsMountOf �
 
   -- ---- the maps
 
-  were : AllHold Holds (map_rows sub)
-  were = maps_hold sub volume.mounts
-
   has_pages : HasMapPages r (blocks_of s) (page_of old)
-  unfolding map_rows covered
-  has_pages = record {
-    block_map = λ k used. all_pass (λ j. is_some (place sub 2 j)) (pages_of (blocks_of s)) k (eqb-true (covered sub 2 (pages_of (blocks_of s))) (pages_of (blocks_of s)) were.0) (in_file (blocks_of s) k used);
-    inode_map = λ k within. all_pass (λ j. is_some (place sub 16 j)) (suc (iags sub)) k (eqb-true (covered sub 16 (suc (iags sub))) (suc (iags sub)) were.1.0) (omega (arith, within));
-  }
+  has_pages = has_map_pages s (page_of old) mounts
 
   sets_past : SetsPast (places_of s low) low
-  sets_past = past s (page_of old) low consistent.sound files same has_pages (past_law s (page_of old) has_pages (sound_law.sound sub volume))
+  sets_past = past s (page_of old) low consistent.sound files same has_pages to.keepable.past
 
   map_bytes : HasMapBytes (places_of s low) low
-  map_bytes = bytes s (page_of old) low consistent.sound files same has_pages checked.bytes
+  map_bytes = bytes s (page_of old) low consistent.sound files same has_pages to.bytes
 
   pub sound : IsSoundMount s (length old) old m.pages
   sound = record {
-    accepted = checked.accepted;
-    group = checked.group;
-    whole = checked.whole;
+    accepted = to.accepted;
+    group = to.group;
+    whole = to.whole;
     room = room;
     consistent = consistent;
     files = files;
@@ -109,7 +95,7 @@ module _ (s : Super) (old : Image) (p : Parts) (log : LogParts) (m : IsMountOf �
   }
 
   maps : KeepsMaps (mount_of s low) (from_mount s old m)
-  maps = has_maps s (length old) (s.logpxd.len - 2) low (shown_by m) area m.maps.files (is_mounted s (length old) old p log m sound) (unbroken s (page_of old) low consistent.sound files same volume.mounts)
+  maps = has_maps s (length old) (s.logpxd.len - 2) low (shown_by m) area m.maps.files (is_mounted s (length old) old p log m sound) (unbroken s (page_of old) low consistent.sound files same mounts)
 
   -- the core's image has the page of the superblock that the mount wrote
   pub superblock : (from_mount s old m).core.mounted 8 ≡ page_of m.pages 8
@@ -123,8 +109,8 @@ module _ (s : Super) (old : Image) (p : Parts) (log : LogParts) (m : IsMountOf �
   pub held : IsHeldFromMount s old p log m
   held = record { held = is_held s (length old) old p log m sound; maps = replaced (mount_of s low) (from_mount s old m) (volume_at area p) (from_mount s old m).volumes maps }
 
-pub superblock_law : (s : Super) (old : Image) (p : Parts) (log : LogParts) (m : IsMountOf ⊤ ⊥ s old p log) → IsCheckedMount s old m.pages → (from_mount s old m).core.mounted 8 ≡ page_of m.pages 8
-superblock_law s old p log m checked = superblock s old p log m checked
+pub superblock_law : (s : Super) (old : Image) (p : Parts) (log : LogParts) (m : IsMountOf ⊤ ⊥ s old p log) → IsKeepableMount s old m.pages → (from_mount s old m).core.mounted 8 ≡ page_of m.pages 8
+superblock_law s old p log m to = superblock s old p log m to
 
-pub checked_law : CheckedLaw
-checked_law s old p log m checked = held s old p log m checked
+pub mounted_law : MountedLaw
+mounted_law s old p log m to = held s old p log m to

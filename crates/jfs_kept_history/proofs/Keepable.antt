@@ -1,4 +1,4 @@
--- An image on which a check finds nothing, and what a mount of it leaves.
+-- An image on which a check finds nothing is keepable, and what a mount of a keepable one leaves.
 use Rattle.std.proofs.Common.{◌≡◌, ◌⊎◌, ◌≤◌, ◌<◌, ◌^◌, ℕ, List, [], length, take, refl, sym, ap, subst, ◌∙◌, inl, inr, arith}
 use Rattle.std.proofs.lemmas.Bool.{cases_eq}
 use Rattle.std.proofs.lemmas.List.{length-set, length-take, get_or-take, get_or-set_same, get_or-set_other}
@@ -8,14 +8,14 @@ use Rattle.jfs_disk.specs.Image.{Image, page_of, ArePages}
 use Rattle.jfs_super.specs.declared.fields.Super.{Super}
 use Rattle.jfs_super.proofs.Rules.{accepted_layout, accepted_pages, accepted_log}
 use Rattle.jfs_findings_new.specs.findings.proofs.BothWays.{clean_law}
-use Rattle.jfs_findings_new.specs.findings.proofs.Tidy.{consistent_law}
 use Rattle.jfs_legal.specs.served.specs.mounted.specs.Crashes.{HasArrays}
 use Rattle.jfs_legal.specs.served.specs.mounted.proofs.Whole.{new_size}
 use Rattle.jfs_mount_disk.specs.Begun.{marked, marked_page}
-use Rattle.jfs_mounted_maps.specs.Checked.{IsCheckedMount}
-use Rattle.jfs_kept_history.specs.Checked.{IsCheckedImage, CheckedLaw, ConsistentLaw}
+use Rattle.jfs_mounted_maps.proofs.Keepable.{keepable_law}
+use Rattle.jfs_mounted_maps.specs.Keepable.{IsKeepableMount}
+use Rattle.jfs_kept_history.specs.Keepable.{IsKeepableImage, CheckedLaw, MountLaw}
 
-module _ (s : Super) (old : Image) (c : IsCheckedImage s old) where
+module _ (s : Super) (old : Image) (c : IsKeepableImage s old) where
   page_size : length (page_of old 8) ≡ 4096
   page_size = c.pages.sizes 8 (let many = accepted_pages s (length old) c.accepted in omega (arith, many))
 
@@ -65,17 +65,23 @@ module _ (s : Super) (old : Image) (c : IsCheckedImage s old) where
   marked_pages : ArePages (length (marked s low)) (marked s low)
   marked_pages = record { number = refl; sizes = λ n small. sizes n (let k = length-set low 8 (marked_page s (page_of low 8)) in omega (arith, k, small)) }
 
-  pub checked : (pages : Image) → pages ≡ marked s low → IsCheckedMount s old pages
-  checked pages is = record {
+  pub to_keep : (pages : Image) → pages ≡ marked s low → IsKeepableMount s old pages
+  to_keep pages is = record {
     accepted = c.accepted;
     group = group;
     bytes = c.bytes;
     whole = subst (λ (image : Image). ArePages (length image) image) (sym is) marked_pages;
-    sound = clean_law.sound s (length old) (page_of old) c.accepted c.clean;
+    keepable = c.keepable;
   }
 
-pub checked_law : (tells crashes : Type 0) → CheckedLaw tells crashes
-checked_law tells crashes t s old p log m c = checked s old c m.pages (m.marked t)
+pub mount_to_keep : (tells crashes : Type 0) → MountLaw tells crashes
+mount_to_keep tells crashes t s old p log m c = to_keep s old c m.pages (m.marked t)
 
-pub consistent_image : ConsistentLaw
-consistent_image s old c = consistent_law.consistent s (page_of old) (clean_law.sound s (length old) (page_of old) c.accepted c.clean)
+pub checked_law : CheckedLaw
+checked_law s old c = record {
+  superblock = c.superblock;
+  accepted = c.accepted;
+  pages = c.pages;
+  bytes = c.bytes;
+  keepable = keepable_law s (page_of old) (clean_law.sound s (length old) (page_of old) c.accepted c.clean);
+}
