@@ -16,9 +16,10 @@ use Rattle.jfs_redo.specs.declared.error.RedoError.{RedoError}
 use Rattle.jfs_redo.specs.declared.error.RedoError.TheVariants as errors
 use Rattle.jfs_run.proofs.Plans.{whole_begins}
 use Rattle.jfs_run.specs.Calls.{Calls, AllTold, NoCalls, AllCalled, SomeCalled, FirstTold, waiting_from, any_failed}
-use Rattle.jfs_run.specs.Left.{LeavesRun, IsLeftUnmounted}
+use Rattle.jfs_run.specs.Left.{LeavesRun, IsLeftNeverMounted}
 use Rattle.jfs_run.specs.Legal.{LeavesImage, IfUnmounted}
 use Rattle.jfs_run.specs.kept_history.specs.Keepable.{IsKeepableImage}
+use Rattle.jfs_run.specs.kept_history.specs.mounted_maps.specs.Keepable.{IsKeepable}
 use Rattle.jfs_run.specs.Run.{Seen, RunIs, MayMount, StayBeside, IsUncalled}
 use Rattle.jfs_run.specs.declared.run.RunEnd.{RunEnd}
 use Rattle.jfs_run.specs.declared.run.RunEnd.TheVariants as ran
@@ -37,7 +38,7 @@ use Rattle.jfs_command.specs.Meaning.{Answer, refused, work_of}
 use Rattle.jfs_command.specs.Redo.{redone_text, is_clean, is_mounted, MountedSays, is_foreign, is_bad, breaks_maps, StaysRedoable, end_of as redo_end}
 use Rattle.jfs_command.specs.Superblock.{AfterState}
 use Rattle.jfs_command.specs.Order.{Planned}
-use Rattle.jfs_command.specs.Run.{whole_text, AreReplies, runs, breaks, Start, cleaned, is_ready, IsRedoneBy, BeginsOn, as_it_is, as_redone, behind, ReadySays, begins, not_redone, LinesSay, HasBegunRedo, FailsOn, RunsOutOn, end_of, text_before, text_of, Tells, RestsAtFirst, DoesOn, StartEnds, DoesLines, LinesEnd}
+use Rattle.jfs_command.specs.Run.{whole_text, AreReplies, runs, breaks, Start, cleaned, is_ready, IsRedoneBy, BeginsOn, as_it_is, as_redone, behind, ReadySays, begins, not_redone, LinesSay, HasBegunRedo, LeavesCalls, FailsOn, RunsOutOn, end_of, text_before, text_of, Tells, RestsAtFirst, DoesOn, StartEnds, DoesLines, LinesEnd}
 use Rattle.jfs_command.proofs.RedoMounted.{not_clean}
 
 -- ---- what became of all lines, or of none, became of a front of them
@@ -51,14 +52,21 @@ all_of_none c none = record { waiting = []; are = rw none.0 tt; told_is = none.1
 pub was : (b : Bool) → true ≡ b → b ≡ true
 was b e = sym e
 
--- What is said where the disk failed is said too of another premise on what is pending that gives the first.
+-- What holds under one premise on what is pending holds under any that implies it.
+leaves_where : (tells crashes : Type 0) (is_left : Bool) (moment : Moment) (start : Start) (work : Work) (had rests : Type 0) → (crashes → rests → had) → LeavesCalls tells crashes is_left moment start had work → LeavesCalls tells crashes is_left moment start rests work
+leaves_where tells crashes is_left moment start work had rests by left = λ t k checked. rested k (left t k checked)
+  where
+    rested : {N B : Type 0} → crashes → (N × IsLeftNeverMounted start.super start.image work.held.image had (last_of work.held.past)) ⊎ B → (N × IsLeftNeverMounted start.super start.image work.held.image rests (last_of work.held.past)) ⊎ B
+    rested k (inl (none, never)) = inl (none, record { pages = never.pages; left = λ it. never.left (by k it) })
+    rested k (inr l) = inr l
+
 pub fails_where : (tells crashes : Type 0) (p : Planned) (is_left : Bool) (moment : Moment) (start : Start) (work : Work) (had rests : Type 0) → (crashes → rests → had)
     → FailsOn tells crashes p is_left moment start had work → FailsOn tells crashes p is_left moment start rests work
-fails_where tells crashes p is_left moment start work had rests by fails = record { called = fails.called; replies = fails.replies; text = fails.text; left = λ t k checked. rested k (fails.left t k checked) }
-  where
-    rested : {N A B : Type 0} → crashes → (N × (had → A)) ⊎ B → (N × (rests → A)) ⊎ B
-    rested k (inl (none, left)) = inl (none, λ it. left (by k it))
-    rested k (inr l) = inr l
+fails_where tells crashes p is_left moment start work had rests by fails = record { called = fails.called; replies = fails.replies; text = fails.text; left = leaves_where tells crashes is_left moment start work had rests by fails.left }
+
+pub runs_out_where : (disk : Count) (tells crashes : Type 0) (p : Planned) (is_left : Bool) (moment : Moment) (start : Start) (work : Work) (had rests : Type 0) → (crashes → rests → had)
+    → RunsOutOn disk tells crashes p is_left moment start had work → RunsOutOn disk tells crashes p is_left moment start rests work
+runs_out_where disk tells crashes p is_left moment start work had rests by out = record { called = out.called; told = out.told; calm = out.calm; replies = out.replies; text = out.text; left = leaves_where tells crashes is_left moment start work had rests by out.left }
 
 -- ---- how the command ends
 
@@ -86,11 +94,14 @@ module _ (tells crashes : Type 0) (p : Planned) (is_left : Bool) (moment : Momen
   abbrev Leaves : RunEnd → Type 0
   Leaves end = tells → IfUnmounted end is_left (LeavesImage s held.image moment c.history left.image)
 
-  abbrev Lefts : RunEnd → Type 0
-  Lefts end = tells → crashes → IsKeepableImage s held.image → LeavesRun (IsLeftUnmounted s held.image (last_of held.past) (last_of left.past)) s held.image moment is_left c (last_of left.past) end
+  abbrev KeepsAgain : RunEnd → Type 0
+  KeepsAgain end = tells → crashes → IsKeepableImage s held.image → IfUnmounted end is_left (IsKeepable s (page_of left.image))
 
-  with_text : (end : RunEnd) → RunIs tells crashes s p.plan is_left (seen_as held before) (seen_as left now) c end → Replies end → Leaves end → Lefts end → StartEnds tells crashes p is_left moment start held.past (work_of_calls (text_of redone p.printed end c) c left) count (end_of end)
-  with_text ran.Done is replies leaves lefts = (
+  abbrev Lefts : RunEnd → Type 0
+  Lefts end = tells → crashes → IsKeepableImage s held.image → LeavesRun (IsLeftNeverMounted s held.image left.image (IsResting (last_of held.past)) (last_of left.past)) s held.image moment is_left c (last_of left.past) end
+
+  with_text : (end : RunEnd) → RunIs tells crashes s p.plan is_left (seen_as held before) (seen_as left now) c end → Replies end → Leaves end → KeepsAgain end → Lefts end → StartEnds tells crashes p is_left moment start held.past (work_of_calls (text_of redone p.printed end c) c left) count (end_of end)
+  with_text ran.Done is replies leaves agains lefts = (
     record { status = statuses.Done; text = whole_text p.printed c },
     runs c is.entries is.told refl is.mounts,
     refl,
@@ -104,11 +115,12 @@ module _ (tells crashes : Type 0) (p : Planned) (is_left : Bool) (moment : Momen
       superblock = λ not_left t. (is.ended not_left).superblock t;
       stable = λ not_left t. (is.ended not_left).resting t;
       image = λ not_left t. leaves t refl not_left;
+      again = λ not_left t k checked. agains t k checked refl not_left;
       left = lefts;
     },
     is.faults,
   )
-  with_text (ran.BadImage bad) is replies leaves lefts = (
+  with_text (ran.BadImage bad) is replies leaves agains lefts = (
     refused (statuses.BadImage bad.page bad.rule bad.value),
     breaks bad refl is.rule,
     refl,
@@ -116,8 +128,8 @@ module _ (tells crashes : Type 0) (p : Planned) (is_left : Bool) (moment : Momen
     record { history = is.calls.0; told = is.calls.1; text = append-nil (text_before redone); image = is.image; past_is = is.past },
     is.faults,
   )
-  with_text ran.Disk is replies leaves lefts = (record { called = called_by is.done; replies = replies; text = refl; left = lefts }, is.rose)
-  with_text ran.Memory is replies leaves lefts = record { called = called_by is.done; told = is.told; calm = is.calm; replies = replies; text = inl refl; left = lefts }
+  with_text ran.Disk is replies leaves agains lefts = (record { called = called_by is.done; replies = replies; text = refl; left = lefts }, is.rose)
+  with_text ran.Memory is replies leaves agains lefts = record { called = called_by is.done; told = is.told; calm = is.calm; replies = replies; text = inl refl; left = lefts }
 
   some_of : IsUncalled tells s (seen_as held before) (seen_as left now) c ⊎ (AllCalled p.plan c × MayMount tells s (seen_as held before)) → IsUncalled tells s (seen_as held before) (seen_as left now) c ⊎ (SomeCalled p.plan c × MayMount tells s (seen_as held before))
   some_of (inl none) = inl none
@@ -128,20 +140,16 @@ module _ (tells crashes : Type 0) (p : Planned) (is_left : Bool) (moment : Momen
   without_text ran.Done is replies lefts =
       record { called = inr ((whole_begins p.plan c.history is.entries, first_told c is.told), is.mounts); told = inr is.told; calm = inr is.calm; replies = replies; text = inr refl; left = λ t k checked. inr (lefts t k checked) }
   without_text (ran.BadImage bad) is replies lefts =
-      record { called = inl (is.calls, λ t n _ _. ap (λ (i : Image). page_of i n) (is.image t)); told = inr (all_of_none c is.calls); calm = inr (ap any_failed is.calls.0); replies = replies; text = inr refl; left = λ t k checked. inl is.calls }
-  without_text ran.Disk is replies lefts = record { called = called_by (some_of is.done); told = inl is.rose; calm = inl is.rose; replies = replies; text = inr refl; left = λ t k checked. called_or (lefts t k checked) }
-    where
-      called_or : {A B : Type 0} → (NoCalls c × A) ⊎ B → NoCalls c ⊎ B
-      called_or (inl none) = inl none.0
-      called_or (inr l) = inr l
+      record { called = inl (is.calls, λ t n _ _. ap (λ (i : Image). page_of i n) (is.image t)); told = inr (all_of_none c is.calls); calm = inr (ap any_failed is.calls.0); replies = replies; text = inr refl; left = λ t k checked. inl (lefts t k checked) }
+  without_text ran.Disk is replies lefts = record { called = called_by (some_of is.done); told = inl is.rose; calm = inl is.rose; replies = replies; text = inr refl; left = lefts }
   without_text ran.Memory is replies lefts = record { called = called_by is.done; told = is.told; calm = is.calm; replies = replies; text = inr refl; left = lefts }
 
-  pub ended : (end : RunEnd) (e : End) (text : List ℕ) → RunIs tells crashes s p.plan is_left (seen_as held before) (seen_as left now) c end → Replies end → Leaves end → Lefts end → Tells redone p.printed end c e text
+  pub ended : (end : RunEnd) (e : End) (text : List ℕ) → RunIs tells crashes s p.plan is_left (seen_as held before) (seen_as left now) c end → Replies end → Leaves end → KeepsAgain end → Lefts end → Tells redone p.printed end c e text
       → StartEnds tells crashes p is_left moment start held.past (work_of_calls text c left) count e
-  ended end e text is replies leaves lefts (inl (is_end, is_text)) =
+  ended end e text is replies leaves agains lefts (inl (is_end, is_text)) =
       subst (λ (x : End). StartEnds tells crashes p is_left moment start held.past (work_of_calls text c left) count x) (sym is_end)
-      (subst (λ (t : List ℕ). StartEnds tells crashes p is_left moment start held.past (work_of_calls t c left) count (end_of end)) (sym is_text) (with_text end is replies leaves lefts))
-  ended end e text is replies leaves lefts (inr (is_end, is_text)) =
+      (subst (λ (t : List ℕ). StartEnds tells crashes p is_left moment start held.past (work_of_calls t c left) count (end_of end)) (sym is_text) (with_text end is replies leaves agains lefts))
+  ended end e text is replies leaves agains lefts (inr (is_end, is_text)) =
       subst (λ (x : End). StartEnds tells crashes p is_left moment start held.past (work_of_calls text c left) count x) (sym is_end)
       (subst (λ (t : List ℕ). StartEnds tells crashes p is_left moment start held.past (work_of_calls t c left) count (Stopped stops.Memory)) (sym is_text) (without_text end is replies lefts))
 
@@ -180,7 +188,9 @@ module _ (tells crashes : Type 0) (p : Planned) (is_left : Bool) (moment : Momen
   from_clean disk (Stopped stops.Disk) clean (fails, rose) =
       let start : Start = record { super = s; image = held.image; text = [] } in
       (inr (inr (start, as_it_is clean refl, fails_where tells crashes p is_left moment start work (IsResting (last_of held.past)) (RestsAtFirst s held) (λ k. clean_rests clean) fails)), rose, clean_ready clean)
-  from_clean disk (Stopped stops.Memory) clean out = (inr (inr (record { super = s; image = held.image; text = [] }, as_it_is clean refl, out)), clean_ready clean)
+  from_clean disk (Stopped stops.Memory) clean out =
+      let start : Start = record { super = s; image = held.image; text = [] } in
+      (inr (inr (start, as_it_is clean refl, runs_out_where disk tells crashes p is_left moment start work (IsResting (last_of held.past)) (RestsAtFirst s held) (λ k. clean_rests clean) out)), clean_ready clean)
   from_clean disk (Stopped stops.Scripts) clean ends = absurd ends
 
   -- a volume that was redone
@@ -211,8 +221,15 @@ module _ (tells crashes : Type 0) (p : Planned) (is_left : Bool) (moment : Momen
         let done = redone_does status did in
         (ready_says answer redone_ready (begins redone_start on rest said (answer_is answer rest (redone_text count) is_status is_text)), done.0, done.1, stays ∙ same)
     from_redone before middle now (Stopped stops.Disk) same (fails, rose) = (inr (inr (redone_start, on, as_pending fails)), subst (λ (n : ℕ). Rose n now) same rose, redone_ready)
-    from_redone before middle now (Stopped stops.Memory) same out =
-        (inr (inr (redone_start, on, subst (λ (n : ℕ). RunsOutOn (record { before = n; now = now }) tells crashes p is_left moment redone_start work) same out)), redone_ready)
+    from_redone before middle now (Stopped stops.Memory) same out = (
+      inr (inr (
+        redone_start,
+        on,
+        runs_out_where (record { before = before; now = now }) tells crashes p is_left moment redone_start work (IsResting (last_of mid.past)) (RestsAtFirst s held) (λ k rests. resting k)
+            (subst (λ (n : ℕ). RunsOutOn (record { before = n; now = now }) tells crashes p is_left moment redone_start (IsResting (last_of mid.past)) work) same out),
+      )),
+      redone_ready,
+    )
     from_redone before middle now (Stopped stops.Scripts) same ends = absurd ends
 
 -- ---- a volume that wasn't redone

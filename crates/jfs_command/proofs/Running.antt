@@ -5,17 +5,17 @@ use Rattle.jfs_bits.specs.Count.{Rose}
 use Rattle.jfs_bits.specs.Broken.{first_broken}
 use Rattle.jfs_bits.specs.declared.descriptor.Moment.{Moment}
 use Rattle.jfs_disk.specs.Image.{Image, page_of, ArePages}
-use Rattle.jfs_disk.specs.Crash.{DiskState, Leaves, last_of}
+use Rattle.jfs_disk.specs.Crash.{DiskState, last_of}
 use Rattle.jfs_disk.specs.Moment.{IsResting}
 use Rattle.jfs_disk.specs.declared.disk.Disk.{Ghosts}
 use Rattle.jfs_findings_new.specs.meaning.specs.Image.{IsConsistentImage}
 use Rattle.jfs_findings_new.specs.mount_rules.specs.Subject.{subject_of}
 use Rattle.jfs_findings_new.specs.mount_rules.specs.Mount.{broken_mount}
 use Rattle.jfs_run.specs.Calls.{NoCalls}
-use Rattle.jfs_run.specs.Left.{IsLeftRun}
+use Rattle.jfs_run.specs.Left.{IsLeftRun, IsLeftNeverMounted}
 use Rattle.jfs_run.specs.Legal.{IsLegalRun, LeavesImage}
 use Rattle.jfs_run.specs.kept_history.specs.Keepable.{IsKeepableImage}
-use Rattle.jfs_run.specs.kept_history.specs.Failed.{LeavesUnmounted}
+use Rattle.jfs_run.specs.kept_history.specs.mounted_maps.specs.Keepable.{IsKeepable}
 use Rattle.jfs_run.specs.Run.{StayBeside}
 use Rattle.jfs_io.specs.declared.source.Source.{Ghosts as SourceMembers}
 use Rattle.jfs_plain.specs.declared.call.Line.{Line}
@@ -42,12 +42,12 @@ use Rattle.jfs_command.specs.Scripts.{ScriptsEnd}
 use Rattle.jfs_command.specs.Superblock.{superblock_of, AfterRules, Looks}
 use Rattle.jfs_command.specs.Top.{PerformsBy}
 use Rattle.jfs_command.specs.Order.{Planned, Order, by_scripts, Asks}
-use Rattle.jfs_command.specs.Run.{IsOfScripts, front_text, whole_text, calls_of, Start, cleaned, is_ready, IsRedoneBy, BeginsOn, as_it_is, as_redone, AreReplies, CallsNone, MayBegin, LinesSay, RunSays, refuses, takes, HasRun, HasOnlyRedone, BeginsOnRedone, Runs, Spares, HasBegunRedo, FailsOn, RunsOutOn, Stopped as StopsBy, RestsAtFirst, HasFailed, HasRunOut, DoesLines, LinesEnd, run_meaning}
+use Rattle.jfs_command.specs.Run.{IsOfScripts, front_text, whole_text, calls_of, Start, cleaned, is_ready, IsRedoneBy, BeginsOn, as_it_is, as_redone, AreReplies, CallsNone, MayBegin, LinesSay, RunSays, refuses, takes, HasRun, HasOnlyRedone, BeginsOnRedone, Runs, Spares, HasBegunRedo, LeavesCalls, FailsOn, RunsOutOn, Stopped as StopsBy, RestsAtFirst, HasFailed, HasRunOut, DoesLines, LinesEnd, run_meaning}
 use Rattle.jfs_command.proofs.SuperblockLemmas.{same_first}
 use Rattle.jfs_command.proofs.Evidence.{held_as, some_held, has_page8}
 use Rattle.jfs_command.proofs.Looking.{ShowsSame, faults_of, ends_as, Seen, seen, goes_on}
 use Rattle.jfs_command.proofs.RedoSaid.{long}
-use Rattle.jfs_command.proofs.RunLines.{fails_where}
+use Rattle.jfs_command.proofs.RunLines.{fails_where, runs_out_where}
 use Rattle.jfs_command.proofs.RunSaid.{IsOrder, order_is, same_lines, same_run, one_run}
 
 moved : (P : Super → Image → Type 0) (s t : Super) (a b : Image) → s ≡ t → a ≡ b → P s a → P t b
@@ -160,34 +160,34 @@ module _ {D : Type 0} (d : Ghosts D) (old mid new : D) (s : Super) (p : Planned)
       superblock = λ not_left t. back (λ st. page_of (d.image new) 8 ≡ page_of st.image 8) t (did.superblock not_left t);
       stable = did.stable;
       image = λ not_left t. back (λ st. LeavesImage st.super st.image now outcome.history.items (d.image new)) t (did.image not_left t);
+      again = λ not_left t k. back (λ st. IsKeepableImage st.super st.image → IsKeepable st.super (page_of (d.image new))) t (did.again not_left t k);
       left = λ t k. back (λ st. IsKeepableImage st.super st.image → IsLeftRun st.super st.image now is_left (calls_of work) (last_of (d.past new))) t (did.left t k);
     }
 
     only_redone : HasOnlyRedone d.tells d.tells_crashes start work → HasOnlyRedone d.tells d.tells_crashes first.at work
     only_redone did = record { history = did.history; told = did.told; text = did.text ∙ sym first.text; image = λ t. back (λ st. d.image new ≡ st.image) t (did.image t); stable = did.stable }
 
-    lefts : (d.tells → d.tells_crashes → IsKeepableImage start.super start.image → NoCalls (calls_of work) ⊎ IsLeftRun start.super start.image now is_left (calls_of work) (last_of (d.past new)))
-        → d.tells → d.tells_crashes → IsKeepableImage first.at.super first.at.image → NoCalls (calls_of work) ⊎ IsLeftRun first.at.super first.at.image now is_left (calls_of work) (last_of (d.past new))
-    lefts did = λ t k. back (λ st. IsKeepableImage st.super st.image → NoCalls (calls_of work) ⊎ IsLeftRun st.super st.image now is_left (calls_of work) (last_of (d.past new))) t (did t k)
+    lefts : LeavesCalls d.tells d.tells_crashes is_left now start (RestsAtFirst s (held_of d mid)) work → LeavesCalls d.tells d.tells_crashes is_left now first.at (RestsAtFirst s (held_of d mid)) work
+    lefts did = λ t k. back (λ st. IsKeepableImage st.super st.image → (NoCalls (calls_of work) × IsLeftNeverMounted st.super st.image (d.image new) (RestsAtFirst s (held_of d mid)) (last_of (d.past new))) ⊎ IsLeftRun st.super st.image now is_left (calls_of work) (last_of (d.past new))) t (did t k)
 
-    -- where the disk failed, the premise is of what the disk held at first too
+    -- the premise is of what the disk held at first too
     fails : FailsOn d.tells d.tells_crashes p is_left now start (RestsAtFirst s (held_of d mid)) work → FailsOn d.tells d.tells_crashes p is_left now first.at (RestsAtFirst (superblock_of found.held) found.held) work
     fails did = fails_where d.tells d.tells_crashes p is_left now first.at work (RestsAtFirst s (held_of d mid)) (RestsAtFirst (superblock_of found.held) found.held) rests_at_mid (record {
       called = called did.called;
       replies = replies did.replies;
       text = behind_first (front_text p.printed (calls_of work)) did.text;
-      left = λ t k. back (λ st. IsKeepableImage st.super st.image → (NoCalls (calls_of work) × (RestsAtFirst s (held_of d mid) → Leaves (LeavesUnmounted st.super st.image) (last_of (d.past new)))) ⊎ IsLeftRun st.super st.image now is_left (calls_of work) (last_of (d.past new))) t (did.left t k);
+      left = lefts did.left;
     })
 
-    runs_out : RunsOutOn (faults_of d mid new) d.tells d.tells_crashes p is_left now start work → RunsOutOn (faults_of d old new) d.tells d.tells_crashes p is_left now first.at work
-    runs_out did = record {
+    runs_out : RunsOutOn (faults_of d mid new) d.tells d.tells_crashes p is_left now start (RestsAtFirst s (held_of d mid)) work → RunsOutOn (faults_of d old new) d.tells d.tells_crashes p is_left now first.at (RestsAtFirst (superblock_of found.held) found.held) work
+    runs_out did = runs_out_where (faults_of d old new) d.tells d.tells_crashes p is_left now first.at work (RestsAtFirst s (held_of d mid)) (RestsAtFirst (superblock_of found.held) found.held) rests_at_mid (record {
       called = called did.called;
       told = told_by did.told;
       calm = told_by did.calm;
       replies = replies did.replies;
       text = text_by did.text;
       left = lefts did.left;
-    }
+    })
       where
         told_by : {A : Type 0} → HasRisen (faults_of d mid new) ⊎ A → HasRisen (faults_of d old new) ⊎ A
         told_by (inl rose) = inl (risen rose)
@@ -259,8 +259,8 @@ module _ {D : Type 0} (d : Ghosts D) (old mid new : D) (s : Super) (p : Planned)
   by_end (Stopped stops.Memory) is_end (did, ready) =
       ends_as d (run_meaning is_left order now) old new outcome found.held (Stopped stops.Memory) is_end found.is (λ sources. (
         record {
-          done = stops_by (λ start. RunsOutOn (faults_of d mid new) d.tells d.tells_crashes p is_left now start work)
-              (λ start. (l : Planned) × Asks order (Ok l) × RunsOutOn (faults_of d old new) d.tells d.tells_crashes l is_left now start work) (λ start first it. (p, good, runs_out start first it)) did;
+          done = stops_by (λ start. RunsOutOn (faults_of d mid new) d.tells d.tells_crashes p is_left now start (RestsAtFirst s (held_of d mid)) work)
+              (λ start. (l : Planned) × Asks order (Ok l) × RunsOutOn (faults_of d old new) d.tells d.tells_crashes l is_left now start (RestsAtFirst (superblock_of found.held) found.held) work) (λ start first it. (p, good, runs_out start first it)) did;
           spares = spares ready;
         },
         tt,

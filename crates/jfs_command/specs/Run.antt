@@ -2,7 +2,7 @@
 use Rattle.std.specs.Prelude.{◌≡◌, ◌⊎◌, ℕ, ⊤, Bool, true, false, ◌||◌, List, [], ◌++◌, length, Option, Some, None, Ok, Err}
 use Rattle.jfs_bits.specs.declared.descriptor.Moment.{Moment}
 use Rattle.jfs_disk.specs.Image.{Image, page_of, ArePages}
-use Rattle.jfs_disk.specs.Crash.{DiskState, Leaves, last_of}
+use Rattle.jfs_disk.specs.Crash.{DiskState, last_of}
 use Rattle.jfs_disk.specs.Moment.{IsResting}
 use Rattle.jfs_ranges.specs.declared.edit.Edit.{Edit}
 use Rattle.jfs_super.specs.declared.fields.Super.{Super}
@@ -18,11 +18,11 @@ use Rattle.jfs_script.specs.History.{history_text, done_text}
 use Rattle.jfs_run.specs.declared.run.RunEnd.{RunEnd}
 use Rattle.jfs_run.specs.declared.run.RunEnd.TheVariants as ran
 use Rattle.jfs_run.specs.Calls.{Calls, HaveEntries, AllTold, NoCalls, AllCalled, SomeCalled, any_failed}
-use Rattle.jfs_run.specs.Left.{IsLeftRun}
+use Rattle.jfs_run.specs.Left.{IsLeftRun, IsLeftNeverMounted}
 use Rattle.jfs_run.specs.Legal.{IsLegalRun, LeavesImage}
 use Rattle.jfs_run.specs.Run.{StayBeside}
 use Rattle.jfs_run.specs.kept_history.specs.Keepable.{IsKeepableImage}
-use Rattle.jfs_run.specs.kept_history.specs.Failed.{LeavesUnmounted}
+use Rattle.jfs_run.specs.kept_history.specs.mounted_maps.specs.Keepable.{IsKeepable}
 use Rattle.jfs_command.specs.declared.status.Status.{Status}
 use Rattle.jfs_command.specs.declared.status.Status.TheVariants as statuses
 use Rattle.jfs_command.specs.declared.status.Stop.{Stop}
@@ -146,7 +146,7 @@ calls_of work = record { history = work.history; told = work.told }
 abbrev pub AreReplies : (tells : Type 0) → Super → Image → Moment → List Entry → Type 0
 AreReplies tells s image now history = tells → IsConsistentImage s (page_of image) → IsLegalRun s (page_of image) now history
 
--- Each client's lines were called, in their order, each entry that waits was told durable, and the text is that of both. Unless the volume was to be left, it was unmounted: page 8 is the one that it had, and a crash leaves all of the disk, which is an image of the tree behind the last reply. Where the image was keepable at first, as one on which a check finds nothing and one that was redone behind a run's crash, redo makes of whatever a crash leaves of the disk what a front of the calls leaves, with all that were told durable; or that is such an image, where the volume wasn't to be left.
+-- Each client's lines were called, in their order, each entry that waits was told durable, and the text is that of both.
 pub record HasRun (tells crashes : Type 0) (p : Planned) (is_left : Bool) (now : Moment) (start : Start) (work : Work) : Type 0 where
   pub entries : HaveEntries p.plan work.history
   pub told : AllTold (calls_of work)
@@ -154,9 +154,13 @@ pub record HasRun (tells crashes : Type 0) (p : Planned) (is_left : Bool) (now :
   pub calm : any_failed work.history ≡ false
   pub replies : AreReplies tells start.super start.image now work.history
   pub text : work.text ≡ start.text ++ whole_text p.printed (calls_of work)
+  -- Unless the volume was to be left, it was unmounted: page 8 is the one that it had, and a crash leaves all of the disk, which is an image of the tree behind the last reply.
   pub superblock : is_left ≡ false → tells → page_of work.held.image 8 ≡ page_of start.image 8
   pub stable : is_left ≡ false → crashes → IsResting (last_of work.held.past)
   pub image : is_left ≡ false → tells → LeavesImage start.super start.image now work.history work.held.image
+  -- Of an image that was keepable, as one is on which a check finds nothing, it is keepable again.
+  pub again : is_left ≡ false → tells → crashes → IsKeepableImage start.super start.image → IsKeepable start.super (page_of work.held.image)
+  -- Redo makes of whatever a crash leaves what a front of the calls leaves, with all that were told durable; or that is such an image, where the volume wasn't to be left.
   pub left : tells → crashes → IsKeepableImage start.super start.image → IsLeftRun start.super start.image now is_left (calls_of work) (last_of work.held.past)
 
 -- it was redone, and nothing else
@@ -199,22 +203,26 @@ pub record HasBegunRedo (tells crashes : Type 0) (s : Super) (held : Held) (work
   pub stays : tells → StaysBehind (blocks_of s) held.image work.held.image
   pub meanwhile : StaysRedoable tells crashes s held work.held
 
--- The disk failed before the volume was mounted, and no line was called; or later, and then each was. Also then redo makes of whatever a crash leaves of the disk what a front of the calls leaves, with all that were told durable; or that is a clean image of the tree behind the last reply, where the volume was being unmounted. Where no line was called, and nothing was pending where calls begin, a crash leaves the tree that they begin on, or a disk that is redone to it.
+-- Also where calls were stopped, redo makes of whatever a crash leaves of the disk what a front of them leaves, with all that were told durable; or that is a clean image of the tree behind the last reply, where the volume was being unmounted. Or no line was called: all pages but page 8 and the log's are as they were, and where nothing was pending when calls were to begin, a crash leaves the tree that they begin on, or a disk that is redone to it.
+abbrev pub LeavesCalls : (tells crashes : Type 0) → Bool → Moment → Start → (rests : Type 0) → Work → Type 0
+LeavesCalls tells crashes is_left now start rests work = tells → crashes → IsKeepableImage start.super start.image
+    → (NoCalls (calls_of work) × IsLeftNeverMounted start.super start.image work.held.image rests (last_of work.held.past)) ⊎ IsLeftRun start.super start.image now is_left (calls_of work) (last_of work.held.past)
+
+-- The disk failed before the volume was mounted, and no line was called; or later, and then each was.
 pub record FailsOn (tells crashes : Type 0) (p : Planned) (is_left : Bool) (now : Moment) (start : Start) (rests : Type 0) (work : Work) : Type 0 where
   pub called : CallsNone tells start work ⊎ (AllCalled p.plan (calls_of work) × MayBegin tells start)
   pub replies : AreReplies tells start.super start.image now work.history
   pub text : work.text ≡ start.text ++ front_text p.printed (calls_of work)
-  pub left : tells → crashes → IsKeepableImage start.super start.image
-      → (NoCalls (calls_of work) × (rests → Leaves (LeavesUnmounted start.super start.image) (last_of work.held.past))) ⊎ IsLeftRun start.super start.image now is_left (calls_of work) (last_of work.held.past)
+  pub left : LeavesCalls tells crashes is_left now start rests work
 
--- Memory ran out: a front of each client's lines was called, and unless a call on the disk failed each of their entries that waits was told, and none was refused for a fault. Where there was none for the text, none is printed. Also then, unless no line was called, a crash leaves what redo makes a front of the calls of, or the image of a volume that was unmounted.
-pub record RunsOutOn (disk : Count) (tells crashes : Type 0) (p : Planned) (is_left : Bool) (now : Moment) (start : Start) (work : Work) : Type 0 where
+-- Memory ran out: a front of each client's lines was called, and unless a call on the disk failed each of their entries that waits was told, and none was refused for a fault. Where there was none for the text, none is printed.
+pub record RunsOutOn (disk : Count) (tells crashes : Type 0) (p : Planned) (is_left : Bool) (now : Moment) (start : Start) (rests : Type 0) (work : Work) : Type 0 where
   pub called : CallsNone tells start work ⊎ (SomeCalled p.plan (calls_of work) × MayBegin tells start)
   pub told : HasRisen disk ⊎ AllTold (calls_of work)
   pub calm : HasRisen disk ⊎ (any_failed work.history ≡ false)
   pub replies : AreReplies tells start.super start.image now work.history
   pub text : (work.text ≡ start.text ++ front_text p.printed (calls_of work)) ⊎ (work.text ≡ [])
-  pub left : tells → crashes → IsKeepableImage start.super start.image → NoCalls (calls_of work) ⊎ IsLeftRun start.super start.image now is_left (calls_of work) (last_of work.held.past)
+  pub left : LeavesCalls tells crashes is_left now start rests work
 
 -- nothing was done yet; or redo was stopped; or the calls were
 abbrev pub Stopped : (tells crashes : Type 0) → (Start → Type 0) → Super → Held → Work → Type 0
@@ -233,7 +241,7 @@ pub record HasFailed (tells crashes : Type 0) (order : Order) (is_left : Bool) (
   pub spares : Spares tells crashes order held work
 
 pub record HasRunOut (disk : Count) (tells crashes : Type 0) (order : Order) (is_left : Bool) (now : Moment) (held : Held) (work : Work) : Type 0 where
-  pub done : Stopped tells crashes (λ start. (p : Planned) × Asks order (Ok p) × RunsOutOn disk tells crashes p is_left now start work) (superblock_of held) held work
+  pub done : Stopped tells crashes (λ start. (p : Planned) × Asks order (Ok p) × RunsOutOn disk tells crashes p is_left now start (RestsAtFirst (superblock_of held) held) work) (superblock_of held) held work
   pub spares : Spares tells crashes order held work
 
 abbrev pub RunStops : Stop → Faults → (tells crashes : Type 0) → Order → Bool → Moment → Held → Work → Type 0
@@ -296,7 +304,7 @@ abbrev pub StartEnds : (tells crashes : Type 0) → Planned → Bool → Moment 
 StartEnds tells crashes p is_left now start past work disk (Own status) =
     (rest : Answer) × CleanSays tells p start.super start.image rest × (rest.status ≡ status) × (work.text ≡ start.text ++ rest.text) × DoesOn status tells crashes p is_left now start past work × Stays disk
 StartEnds tells crashes p is_left now start past work disk (ByStop stops.Disk) = FailsOn tells crashes p is_left now start (IsResting (last_of past)) work × HasRisen disk
-StartEnds tells crashes p is_left now start past work disk (ByStop stops.Memory) = RunsOutOn disk tells crashes p is_left now start work
+StartEnds tells crashes p is_left now start past work disk (ByStop stops.Memory) = RunsOutOn disk tells crashes p is_left now start (IsResting (last_of past)) work
 StartEnds tells crashes p is_left now start past work disk (ByStop stops.Scripts) = ⊥
 
 abbrev pub DoesLines : Status → (tells crashes : Type 0) → Planned → Bool → Moment → Super → Held → Work → Type 0
@@ -312,5 +320,5 @@ LinesEnd tells crashes p is_left now s held work disk (Own status) =
 LinesEnd tells crashes p is_left now s held work disk (ByStop stops.Disk) =
     Stopped tells crashes (λ start. FailsOn tells crashes p is_left now start (RestsAtFirst s held) work) s held work × HasRisen disk × (is_ready s.state.0 ≡ true)
 LinesEnd tells crashes p is_left now s held work disk (ByStop stops.Memory) =
-    Stopped tells crashes (λ start. RunsOutOn disk tells crashes p is_left now start work) s held work × (is_ready s.state.0 ≡ true)
+    Stopped tells crashes (λ start. RunsOutOn disk tells crashes p is_left now start (RestsAtFirst s held) work) s held work × (is_ready s.state.0 ≡ true)
 LinesEnd tells crashes p is_left now s held work disk (ByStop stops.Scripts) = ⊥

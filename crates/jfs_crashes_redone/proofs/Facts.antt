@@ -8,7 +8,7 @@ use Rattle.jfs_shown.specs.meaning.specs.Readers.{readers}
 use Rattle.jfs_shown.specs.objects.specs.Contents.{block_of}
 use Rattle.jfs_shown.specs.objects.specs.Image.{file_extents, file_page, iags_on}
 use Rattle.jfs_left_maps.specs.Items.{HasFours}
-use Rattle.jfs_left_maps.specs.Numbers.{SaysNumbers}
+use Rattle.jfs_left_maps.specs.Sizes.{SaysSizes}
 use Rattle.jfs_held_volumes.specs.survival.specs.MapMarks.{map_marks}
 use Rattle.jfs_held_volumes.specs.survival.specs.face.specs.Mounted.{HasMapPages}
 use Rattle.jfs_held_volumes.specs.survival.specs.face.specs.Places.{Places, AreInAreas, is_map_page}
@@ -17,7 +17,7 @@ use Rattle.jfs_held_volumes.specs.survival.specs.face.specs.Volume.{face_of}
 use Rattle.jfs_held_volumes.specs.survival.specs.recovery.specs.Core.{Core, count, image}
 use Rattle.jfs_held_volumes.specs.survival.specs.recovery.specs.Face.{Pages}
 use Rattle.jfs_held_volumes.specs.survival.specs.recovery.specs.Sound.{IsSound, IsLeft, IsLogImage, window}
-use Rattle.jfs_mounted_places.specs.Places.{groups_of}
+use Rattle.jfs_held_maps.specs.mounted_places.specs.Places.{groups_of}
 use Rattle.jfs_crashed.specs.Crashed.{KeepsApart}
 use Rattle.jfs_redone_volumes.specs.Redone.{found_places}
 
@@ -36,7 +36,7 @@ pub record AreFacts (s : Super) (pl : Places) (core : Core) (left : Pages) (old 
   pub whole : (k : ℕ) → k < pages_of (blocks_of s) → is_some (block_of (file_extents (readers (blocks_of s)) (page_of old) 2) k) ≡ true
   pub block_left : file_page (readers (blocks_of s)) (page_of old) 2 0 ≡ left (pl.block_map 0)
   pub inode_left : (k : ℕ) → k ≤ pl.iags → file_page (readers (blocks_of s)) (page_of old) 16 k ≡ left (pl.inode_map k)
-  pub says : (p : ℕ) → SaysNumbers pl p (left p)
+  pub says : (p : ℕ) → SaysSizes pl p (left p)
   pub number : iags_on (readers (blocks_of s)) (page_of old) ≡ pl.iags
   pub has_pages : HasMapPages (readers (blocks_of s)) (blocks_of s) (page_of old)
   pub places_are : found_places s old ≡ pl

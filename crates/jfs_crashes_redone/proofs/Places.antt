@@ -13,8 +13,8 @@ use Rattle.jfs_shown.specs.meaning.specs.Readers.{readers}
 use Rattle.jfs_shown.specs.objects.specs.Contents.{block_of}
 use Rattle.jfs_shown.specs.objects.specs.Image.{file_extents, file_page, iags_on, area_on}
 use Rattle.jfs_shown.specs.objects.specs.Readers.{Readers}
-use Rattle.jfs_left_maps.specs.Numbers.{SaysNumbers}
-use Rattle.jfs_left_maps.proofs.Numbers.{numbers_law}
+use Rattle.jfs_left_maps.specs.Sizes.{SaysSizes}
+use Rattle.jfs_left_maps.proofs.Sizes.{sizes_law}
 use Rattle.jfs_held_volumes.specs.image_volumes.specs.Stands.{FixedStay}
 use Rattle.jfs_held_volumes.specs.image_volumes.proofs.Next.{in_areas}
 use Rattle.jfs_held_volumes.specs.image_volumes.proofs.Read.{file_page_is}
@@ -34,8 +34,8 @@ use Rattle.jfs_held_volumes.specs.survival.specs.recovery.proofs.Parts.{fixed_lo
 use Rattle.jfs_held_volumes.specs.Held.{Mount, Held, IsHeld, face_at}
 use Rattle.jfs_held_maps.specs.Maps.{KeepsMaps}
 use Rattle.jfs_held_maps.proofs.Places.{places_law, first_law, area_within, map_within}
-use Rattle.jfs_mounted_places.specs.Mounted.{mount_of}
-use Rattle.jfs_mounted_places.specs.Places.{groups_of, places_of}
+use Rattle.jfs_held_maps.specs.mounted_places.specs.Mounted.{mount_of}
+use Rattle.jfs_held_maps.specs.mounted_places.specs.Places.{groups_of, places_of}
 use Rattle.jfs_crashed.specs.Crashed.{KeepsApart}
 use Rattle.jfs_crashed.proofs.Crashed.{own_log}
 use Rattle.jfs_redone_volumes.specs.Redone.{found_places}
@@ -148,8 +148,8 @@ module _ (s : Super) (mounted : Pages) (x : Held) (old : Image) (held : IsHeld (
       sym (file_page_is r (page_of old) 16 k (inode_there k (first.pages.inode_map k (omega (arith, low, many))))) ∙ ap (page_of old) (inode_place k)
       ∙ sym (same_low (pl.inode_map k) (within (pl.inode_map k) (inode_page pl k low)))
 
-  says : (p : ℕ) → SaysNumbers pl p (left p)
-  says p = numbers_law.left r pl (map_marks pl) core left sound keeps.numbers is_left p
+  says : (p : ℕ) → SaysSizes pl p (left p)
+  says p = sizes_law.left r pl (map_marks pl) core left sound keeps.sizes is_left p
 
   number : iags_on r (page_of old) ≡ pl.iags
   number = ap (λ (a : List ℕ). field_of a 4 4) (inode_left 0 (omega arith)) ∙ (says (pl.inode_map 0)).iags refl

@@ -38,8 +38,8 @@ use Rattle.jfs_held_volumes.specs.Held.{Held, IsHeld}
 use Rattle.jfs_held_volumes.specs.Laws.{IsFront}
 use Rattle.jfs_held_volumes.proofs.Crash.{crash_law as held_crash}
 use Rattle.jfs_held_maps.specs.Maps.{KeepsMaps}
-use Rattle.jfs_mounted_places.specs.Mounted.{SetsPast, mount_of}
-use Rattle.jfs_mounted_places.specs.Places.{places_of}
+use Rattle.jfs_held_maps.specs.mounted_places.specs.Mounted.{SetsPast, mount_of}
+use Rattle.jfs_held_maps.specs.mounted_places.specs.Places.{places_of}
 use Rattle.jfs_redo.specs.Log.{AreCommitted}
 use Rattle.jfs_redo.specs.Partly.{MapsStandApart}
 use Rattle.jfs_redo.specs.Redo.{IsRedone, IsRefusal, RedoIs}

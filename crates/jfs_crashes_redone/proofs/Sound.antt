@@ -19,9 +19,9 @@ use Rattle.jfs_held_volumes.specs.survival.specs.face.specs.Recovered.{IsVolumeA
 use Rattle.jfs_held_volumes.specs.survival.specs.face.proofs.Reading.{block_page}
 use Rattle.jfs_held_volumes.specs.survival.specs.recovery.specs.Face.{Pages, Item, Value}
 use Rattle.jfs_held_volumes.specs.survival.specs.recovery.specs.kinds.specs.Images.{HasWholeFiles}
-use Rattle.jfs_mounted_places.specs.Mounted.{SetsPast}
-use Rattle.jfs_mounted_places.specs.Places.{groups_of, places_of}
-use Rattle.jfs_mounted_places.proofs.Places.{in_file}
+use Rattle.jfs_held_maps.specs.mounted_places.specs.Mounted.{SetsPast}
+use Rattle.jfs_held_maps.specs.mounted_places.specs.Places.{groups_of, places_of}
+use Rattle.jfs_held_maps.specs.mounted_places.proofs.Places.{in_file}
 use Rattle.jfs_redone_volumes.proofs.Superblock.{places, map_page}
 
 -- a canonical dmap has the bits set of blocks past the end

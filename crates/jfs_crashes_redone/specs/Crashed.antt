@@ -25,8 +25,8 @@ use Rattle.jfs_held_volumes.specs.survival.specs.recovery.specs.objects.specs.Im
 use Rattle.jfs_held_volumes.specs.survival.specs.recovery.specs.kinds.specs.Images.{HasWholeFiles, IsSameVolume}
 use Rattle.jfs_held_volumes.specs.Held.{Mount, Held, IsHeld}
 use Rattle.jfs_held_maps.specs.Maps.{KeepsMaps}
-use Rattle.jfs_mounted_places.specs.Mounted.{SetsPast, mount_of}
-use Rattle.jfs_mounted_places.specs.Places.{places_of}
+use Rattle.jfs_held_maps.specs.mounted_places.specs.Mounted.{SetsPast, mount_of}
+use Rattle.jfs_held_maps.specs.mounted_places.specs.Places.{places_of}
 
 -- ---- what a crash leaves
 

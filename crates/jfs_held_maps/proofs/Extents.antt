@@ -7,10 +7,10 @@ use Rattle.jfs_iag.specs.Iag.{no_run}
 use Rattle.jfs_iag.specs.Canonical.{is_there}
 use Rattle.jfs_steps.specs.After.{four_from}
 use Rattle.jfs_left_maps.specs.Items.{IsExtent}
-use Rattle.jfs_held_volumes.specs.survival.specs.face.specs.Items.{places, extent_by, no_extent}
-use Rattle.jfs_held_volumes.specs.survival.specs.face.specs.Places.{Places}
-use Rattle.jfs_held_volumes.specs.survival.specs.face.specs.Volume.{items_on}
-use Rattle.jfs_held_volumes.specs.survival.specs.recovery.specs.Face.{Pages}
+use Rattle.jfs_mounted_places.specs.held.specs.survival.specs.face.specs.Items.{places, extent_by, no_extent}
+use Rattle.jfs_mounted_places.specs.held.specs.survival.specs.face.specs.Places.{Places}
+use Rattle.jfs_mounted_places.specs.held.specs.survival.specs.face.specs.Volume.{items_on}
+use Rattle.jfs_mounted_places.specs.held.specs.survival.specs.recovery.specs.Face.{Pages}
 
 -- where it stands
 pub extent_read : (pl : Places) (s : Pages) (e : ℕ) → e < places pl → extent_by (items_on pl s) e ≡ pxd_of (s (pl.inode_map (suc (e / 128)))) (3072 + 8 * (e % 128))

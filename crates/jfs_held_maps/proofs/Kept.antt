@@ -5,24 +5,24 @@ use Rattle.jfs_ranges.specs.Apply.{touches_tx}
 use Rattle.jfs_shown.specs.objects.specs.Contents.{block_of}
 use Rattle.jfs_shown.specs.objects.specs.Image.{file_extents}
 use Rattle.jfs_left_maps.specs.Items.{HasFours}
-use Rattle.jfs_left_maps.proofs.Numbers.{numbers_law}
-use Rattle.jfs_held_volumes.specs.survival.specs.halves.specs.Entry.{Happened, edits}
-use Rattle.jfs_held_volumes.specs.survival.specs.halves.specs.Half.{Halves}
-use Rattle.jfs_held_volumes.specs.survival.specs.halves.specs.Change.{Enters, Takes, Tells, HandsOut, GoesHome, Tears, Drops, Writes, WriteTears, Stops, LogStops, Syncs, Points, Knows}
-use Rattle.jfs_held_volumes.specs.survival.specs.halves.specs.Both.{BothChange, Changes, GroupIsWritten, GroupFails, Fits, changed}
-use Rattle.jfs_held_volumes.specs.survival.specs.recovery.specs.Face.{Face, Pages}
-use Rattle.jfs_held_volumes.specs.survival.specs.recovery.specs.Core.{Core, Step, AreAllowed, does, after_steps}
-use Rattle.jfs_held_volumes.specs.survival.specs.recovery.specs.Core.Step.{Write, WriteFails, Append, Take, GroupWrite, Told, Home, HomeFails, LowSync, SyncPoint}
-use Rattle.jfs_held_volumes.specs.survival.specs.recovery.specs.objects.specs.Volume.{Volume}
-use Rattle.jfs_held_volumes.specs.survival.specs.face.specs.Places.{is_map_page}
-use Rattle.jfs_held_volumes.specs.survival.specs.face.proofs.Whole.{is_face}
-use Rattle.jfs_held_volumes.specs.survival.specs.MapMarks.{map_marks}
-use Rattle.jfs_held_volumes.specs.survival.proofs.Changes.{step_is}
-use Rattle.jfs_held_volumes.specs.survival.proofs.Lines.{reads_lines}
-use Rattle.jfs_held_volumes.specs.Held.{Mount, Held, IsHeld, face_at}
-use Rattle.jfs_held_volumes.specs.Changes.{MayChange, steps_of, next}
-use Rattle.jfs_held_volumes.proofs.Kept.{part_size, change_law as held_change}
-use Rattle.jfs_held_volumes.proofs.Played.{areas, plays}
+use Rattle.jfs_left_maps.proofs.Sizes.{sizes_law}
+use Rattle.jfs_mounted_places.specs.held.specs.survival.specs.halves.specs.Entry.{Happened, edits}
+use Rattle.jfs_mounted_places.specs.held.specs.survival.specs.halves.specs.Half.{Halves}
+use Rattle.jfs_mounted_places.specs.held.specs.survival.specs.halves.specs.Change.{Enters, Takes, Tells, HandsOut, GoesHome, Tears, Drops, Writes, WriteTears, Stops, LogStops, Syncs, Points, Knows}
+use Rattle.jfs_mounted_places.specs.held.specs.survival.specs.halves.specs.Both.{BothChange, Changes, GroupIsWritten, GroupFails, Fits, changed}
+use Rattle.jfs_mounted_places.specs.held.specs.survival.specs.recovery.specs.Face.{Face, Pages}
+use Rattle.jfs_mounted_places.specs.held.specs.survival.specs.recovery.specs.Core.{Core, Step, AreAllowed, does, after_steps}
+use Rattle.jfs_mounted_places.specs.held.specs.survival.specs.recovery.specs.Core.Step.{Write, WriteFails, Append, Take, GroupWrite, Told, Home, HomeFails, LowSync, SyncPoint}
+use Rattle.jfs_mounted_places.specs.held.specs.survival.specs.recovery.specs.objects.specs.Volume.{Volume}
+use Rattle.jfs_mounted_places.specs.held.specs.survival.specs.face.specs.Places.{is_map_page}
+use Rattle.jfs_mounted_places.specs.held.specs.survival.specs.face.proofs.Whole.{is_face}
+use Rattle.jfs_mounted_places.specs.held.specs.survival.specs.MapMarks.{map_marks}
+use Rattle.jfs_mounted_places.specs.held.specs.survival.proofs.Changes.{step_is}
+use Rattle.jfs_mounted_places.specs.held.specs.survival.proofs.Lines.{reads_lines}
+use Rattle.jfs_mounted_places.specs.held.specs.Held.{Mount, Held, IsHeld, face_at}
+use Rattle.jfs_mounted_places.specs.held.specs.Changes.{MayChange, steps_of, next}
+use Rattle.jfs_mounted_places.specs.held.proofs.Kept.{part_size, change_law as held_change}
+use Rattle.jfs_mounted_places.specs.held.proofs.Played.{areas, plays}
 use Rattle.jfs_held_maps.specs.Maps.{KeepsMaps, ChangeLaw, RunLaw, ReplaceLaw}
 
 -- ---- the image that was mounted
@@ -101,7 +101,7 @@ module _ (m : Mount) (x : Held) (held : IsHeld m x) (keeps : KeepsMaps m x) wher
       some = keeps.some;
       whole = λ k low. ap (λ (s : Pages). is_some (block_of (file_extents m.readers s 2) k)) mounted ∙ keeps.whole k low;
       extents = subst (HasFours m.places) (sym mounted) keeps.extents;
-      numbers = numbers_law.steps m.readers m.places (map_marks m.places) x.core (steps_of m x c) (areas m x held) held.core_is.sound allowed keeps.numbers;
+      sizes = sizes_law.steps m.readers m.places (map_marks m.places) x.core (steps_of m x c) (areas m x held) held.core_is.sound allowed keeps.sizes;
       lines = lines;
     }
 
@@ -114,4 +114,4 @@ run_law m x (d ∷ ds) held keeps (fits, change, rest) =
     run_law m (next m x d.change d.volume) ds (held_change m x d.change d.volume held fits change) (change_law m x d.change d.volume held keeps fits change) rest
 
 pub replaced : ReplaceLaw
-replaced m x w volumes keeps = record { room = keeps.room; some = keeps.some; whole = keeps.whole; extents = keeps.extents; numbers = keeps.numbers; lines = keeps.lines }
+replaced m x w volumes keeps = record { room = keeps.room; some = keeps.some; whole = keeps.whole; extents = keeps.extents; sizes = keeps.sizes; lines = keeps.lines }

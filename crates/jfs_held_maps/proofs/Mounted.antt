@@ -2,9 +2,10 @@
 use Rattle.std.proofs.Common.{◌≡◌, ◌<◌, ◌≤◌, ◌+◌, ◌*◌, ◌/◌, ◌%◌, nat_le, ℕ, suc, true, List, is_some, None, sym, ap, ◌∙◌, subst, arith}
 use Rattle.std.proofs.lemmas.Bool.{eqb-true, leb-true, and_parts}
 use Rattle.std.proofs.lemmas.List.{length-map}
+use Rattle.jfs_bits.specs.Bits.{is_taken}
 use Rattle.jfs_bits.specs.Broken.{AllHold, Holds}
 use Rattle.jfs_bits.specs.Descriptor.{pxd_of}
-use Rattle.jfs_bits.specs.Field.{field_of}
+use Rattle.jfs_bits.specs.Field.{field_of, range_of}
 use Rattle.jfs_bits.specs.declared.extent.Xad.{Xad}
 use Rattle.jfs_bits.proofs.Broken.{first_broken-none}
 use Rattle.jfs_super.specs.Rules.{blocks_of}
@@ -20,22 +21,22 @@ use Rattle.jfs_shown.specs.objects.specs.Contents.{block_of}
 use Rattle.jfs_shown.specs.objects.specs.Image.{file_page}
 use Rattle.jfs_shown.specs.Laws.{SamePlaces}
 use Rattle.jfs_left_maps.specs.Items.{IsExtent, HasFours}
-use Rattle.jfs_left_maps.specs.Numbers.{SaysNumbers}
-use Rattle.jfs_left_maps.proofs.Numbers.{numbers_law}
-use Rattle.jfs_held_volumes.specs.survival.specs.halves.specs.Entry.{Shown}
-use Rattle.jfs_held_volumes.specs.survival.specs.recovery.specs.crash_core.specs.Core.{fresh_block}
-use Rattle.jfs_held_volumes.specs.survival.specs.recovery.specs.Face.{Face, Pages, IsStart}
-use Rattle.jfs_held_volumes.specs.survival.specs.recovery.specs.Face.Item.{ExtentPlace}
-use Rattle.jfs_held_volumes.specs.survival.specs.recovery.proofs.Images.{closed_item}
-use Rattle.jfs_held_volumes.specs.survival.specs.face.specs.Items.{place_of, extent_by}
-use Rattle.jfs_held_volumes.specs.survival.specs.face.specs.Places.{Places, AreInAreas}
-use Rattle.jfs_held_volumes.specs.survival.specs.face.specs.Volume.{items_on}
-use Rattle.jfs_held_volumes.specs.survival.specs.face.proofs.Whole.{is_face}
-use Rattle.jfs_held_volumes.specs.survival.specs.MapMarks.{map_marks}
-use Rattle.jfs_held_volumes.specs.canonical_maps.specs.Images.{made_canonical}
-use Rattle.jfs_held_volumes.specs.image_volumes.proofs.Next.{start_law, in_areas}
-use Rattle.jfs_held_volumes.specs.image_volumes.proofs.Read.{file_page_is}
-use Rattle.jfs_held_volumes.specs.Held.{Mount, IsHeld, face_at}
+use Rattle.jfs_left_maps.specs.Sizes.{SaysSizes}
+use Rattle.jfs_left_maps.proofs.Sizes.{sizes_law}
+use Rattle.jfs_mounted_places.specs.held.specs.survival.specs.halves.specs.Entry.{Shown}
+use Rattle.jfs_mounted_places.specs.held.specs.survival.specs.recovery.specs.crash_core.specs.Core.{fresh_block}
+use Rattle.jfs_mounted_places.specs.held.specs.survival.specs.recovery.specs.Face.{Face, Pages, IsStart}
+use Rattle.jfs_mounted_places.specs.held.specs.survival.specs.recovery.specs.Face.Item.{ExtentPlace}
+use Rattle.jfs_mounted_places.specs.held.specs.survival.specs.recovery.proofs.Images.{closed_item}
+use Rattle.jfs_mounted_places.specs.held.specs.survival.specs.face.specs.Items.{place_of, extent_by}
+use Rattle.jfs_mounted_places.specs.held.specs.survival.specs.face.specs.Places.{Places, AreInAreas}
+use Rattle.jfs_mounted_places.specs.held.specs.survival.specs.face.specs.Volume.{items_on}
+use Rattle.jfs_mounted_places.specs.held.specs.survival.specs.face.proofs.Whole.{is_face}
+use Rattle.jfs_mounted_places.specs.held.specs.survival.specs.MapMarks.{map_marks}
+use Rattle.jfs_mounted_places.specs.held.specs.canonical_maps.specs.Images.{made_canonical}
+use Rattle.jfs_mounted_places.specs.held.specs.image_volumes.proofs.Next.{start_law, in_areas}
+use Rattle.jfs_mounted_places.specs.held.specs.image_volumes.proofs.Read.{file_page_is}
+use Rattle.jfs_mounted_places.specs.held.specs.Held.{Mount, IsHeld, face_at}
 use Rattle.jfs_mounted_places.specs.Places.{groups_of, places_of, StandsInPlaces}
 use Rattle.jfs_mounted_places.specs.Mounted.{IsMounted, mount_of, held_from}
 use Rattle.jfs_mounted_places.proofs.Places.{known_law}
@@ -90,12 +91,13 @@ module _ (s : Super) (pages ring : ℕ) (low : Pages) (shown : Shown) (area : �
 
   -- ---- the control pages
 
-  says : (p : ℕ) → SaysNumbers pl p (low p)
+  says : (p : ℕ) → SaysSizes pl p (low p)
   unfolding map_rows
   says p = record {
     blocks = λ at. ap (λ (q : ℕ). field_of (low q) 0 8) (sym at) ∙ ap (λ (a : List ℕ). field_of a 0 8) (file_page_is r low 2 0 (block_there 0 (omega arith)))
         ∙ eqb-true (field_of (file_page r low 2 0) 0 8) (blocks_of s) were.1.1.0;
     iags = λ at. ap (λ (q : ℕ). field_of (low q) 4 4) (sym at) ∙ ap (λ (a : List ℕ). field_of a 4 4) (file_page_is r low 16 0 (inode_there 0 (omega arith)));
+    past = λ k i within used at beyond small. ap (λ (q : ℕ). is_taken (range_of (low q) 3072 1024) i) (sym at) ∙ is.past k i used beyond small;
   }
 
   some : 1 ≤ pl.iags
@@ -122,7 +124,7 @@ module _ (s : Super) (pages ring : ℕ) (low : Pages) (shown : Shown) (area : �
     some = some;
     whole = λ k low_k. ap (λ (es : List Xad). is_some (block_of es k)) same.block_map ∙ block_there k low_k;
     extents = fours;
-    numbers = numbers_law.start r pl (map_marks pl) low image says;
+    sizes = sizes_law.start r pl (map_marks pl) low image says;
     lines = λ p is_map. tt;
   }
 

@@ -15,18 +15,18 @@ use Rattle.jfs_disk.specs.Image.{page_of}
 use Rattle.jfs_shown.specs.objects.proofs.Blocks.{covered}
 use Rattle.jfs_shown.specs.Laws.{map_pages}
 use Rattle.jfs_shown.proofs.Places.{keeps_law, files_law}
-use Rattle.jfs_held_volumes.specs.survival.specs.face.specs.Mounted.{places_on, HasMapPages}
-use Rattle.jfs_held_volumes.specs.survival.specs.face.specs.Places.{Places, AreInAreas, is_block_page, is_inode_page, is_map_page}
-use Rattle.jfs_held_volumes.specs.survival.specs.face.specs.Recovered.{IsVolumeAt}
-use Rattle.jfs_held_volumes.specs.survival.specs.recovery.specs.Face.{Pages}
-use Rattle.jfs_held_volumes.specs.image_volumes.proofs.Next.{in_areas}
-use Rattle.jfs_held_volumes.specs.survival.specs.MapMarks.{map_marks}
-use Rattle.jfs_held_volumes.specs.survival.specs.Laws.{left_by}
-use Rattle.jfs_held_volumes.specs.survival.proofs.Crashes.{left as crash_left}
-use Rattle.jfs_held_volumes.specs.survival.specs.face.proofs.Whole.{is_face}
-use Rattle.jfs_held_volumes.specs.survival.specs.recovery.proofs.Parts.{fixed_low}
-use Rattle.jfs_held_volumes.specs.Held.{face_at}
-use Rattle.jfs_held_volumes.proofs.Played.{areas}
+use Rattle.jfs_mounted_places.specs.held.specs.survival.specs.face.specs.Mounted.{places_on, HasMapPages}
+use Rattle.jfs_mounted_places.specs.held.specs.survival.specs.face.specs.Places.{Places, AreInAreas, is_block_page, is_inode_page, is_map_page}
+use Rattle.jfs_mounted_places.specs.held.specs.survival.specs.face.specs.Recovered.{IsVolumeAt}
+use Rattle.jfs_mounted_places.specs.held.specs.survival.specs.recovery.specs.Face.{Pages}
+use Rattle.jfs_mounted_places.specs.held.specs.image_volumes.proofs.Next.{in_areas}
+use Rattle.jfs_mounted_places.specs.held.specs.survival.specs.MapMarks.{map_marks}
+use Rattle.jfs_mounted_places.specs.held.specs.survival.specs.Laws.{left_by}
+use Rattle.jfs_mounted_places.specs.held.specs.survival.proofs.Crashes.{left as crash_left}
+use Rattle.jfs_mounted_places.specs.held.specs.survival.specs.face.proofs.Whole.{is_face}
+use Rattle.jfs_mounted_places.specs.held.specs.survival.specs.recovery.proofs.Parts.{fixed_low}
+use Rattle.jfs_mounted_places.specs.held.specs.Held.{face_at}
+use Rattle.jfs_mounted_places.specs.held.proofs.Played.{areas}
 use Rattle.jfs_held_maps.specs.Places.{PlacesLaw, FirstLaw, FixedLaw}
 
 found : (o : Option ℕ) (b : ℕ) → is_some o ≡ true → unwrap_or o 0 ≡ b → o ≡ Some b

@@ -10,24 +10,24 @@ use Rattle.jfs_shown.specs.map_files.specs.declared.map_file.MapFiles.{MapFiles}
 use Rattle.jfs_shown.specs.objects.specs.Contents.{block_of}
 use Rattle.jfs_shown.specs.objects.specs.Image.{file_extents}
 use Rattle.jfs_left_maps.specs.Items.{HasFours}
-use Rattle.jfs_left_maps.specs.Numbers.{KeepsNumbers}
-use Rattle.jfs_held_volumes.specs.survival.specs.face.specs.Places.{is_map_page}
-use Rattle.jfs_held_volumes.specs.survival.specs.halves.specs.Both.{BothChange, Fits}
-use Rattle.jfs_held_volumes.specs.survival.specs.halves.specs.Entry.{Shown, edits}
-use Rattle.jfs_held_volumes.specs.survival.specs.recovery.specs.Face.{Pages}
-use Rattle.jfs_held_volumes.specs.survival.specs.recovery.specs.objects.specs.Volume.{Volume}
-use Rattle.jfs_held_volumes.specs.Held.{Mount, Held, IsHeld}
-use Rattle.jfs_held_volumes.specs.Changes.{MayChange, Made, next, after, AllMay}
+use Rattle.jfs_left_maps.specs.Sizes.{KeepsSizes}
+use Rattle.jfs_mounted_places.specs.held.specs.survival.specs.face.specs.Places.{is_map_page}
+use Rattle.jfs_mounted_places.specs.held.specs.survival.specs.halves.specs.Both.{BothChange, Fits}
+use Rattle.jfs_mounted_places.specs.held.specs.survival.specs.halves.specs.Entry.{Shown, edits}
+use Rattle.jfs_mounted_places.specs.held.specs.survival.specs.recovery.specs.Face.{Pages}
+use Rattle.jfs_mounted_places.specs.held.specs.survival.specs.recovery.specs.objects.specs.Volume.{Volume}
+use Rattle.jfs_mounted_places.specs.held.specs.Held.{Mount, Held, IsHeld}
+use Rattle.jfs_mounted_places.specs.held.specs.Changes.{MayChange, Made, next, after, AllMay}
 use Rattle.jfs_mounted_places.specs.Mounted.{IsMounted, mount_of, held_from}
 
 -- The volume's part of the disk has a page for each block. There is an inode allocation group (IAG); the block map's file had a block for each of its pages, and each inode extent had four blocks, when the volume was mounted.
--- The control pages of both maps say their numbers. And no entry has a line of a page of the maps.
+-- The maps say their sizes, and no entry has a line of a page of theirs.
 pub record KeepsMaps (m : Mount) (x : Held) : Type 0 where
   pub room : m.blocks ≤ length x.both.volume.blocks
   pub some : 1 ≤ m.places.iags
   pub whole : (k : ℕ) → k < pages_of m.blocks → is_some (block_of (file_extents m.readers x.core.mounted 2) k) ≡ true
   pub extents : HasFours m.places x.core.mounted
-  pub numbers : KeepsNumbers m.places x.core
+  pub sizes : KeepsSizes m.places x.core
   pub lines : (p : ℕ) → is_map_page m.places p ≡ true → AllByRecursion (λ h. touches_tx p (edits h) ≡ false) x.both.volume.history
 
 -- So it is where a mount found no rule of the maps broken.

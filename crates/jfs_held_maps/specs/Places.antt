@@ -5,12 +5,12 @@ use Rattle.jfs_disk.specs.Crash.{IsCrashImage}
 use Rattle.jfs_disk.specs.Image.{Image, page_of}
 use Rattle.jfs_shown.specs.objects.specs.Readers.{Readers}
 use Rattle.jfs_shown.specs.Laws.{SamePlaces}
-use Rattle.jfs_held_volumes.specs.survival.specs.face.specs.Places.{Places, is_fixed_page}
-use Rattle.jfs_held_volumes.specs.survival.specs.halves.specs.Half.{low_in}
-use Rattle.jfs_held_volumes.specs.survival.specs.face.specs.Recovered.{IsVolumeAt}
-use Rattle.jfs_held_volumes.specs.survival.specs.recovery.specs.Face.{Pages}
-use Rattle.jfs_held_volumes.specs.image_volumes.specs.Stands.{FixedStay}
-use Rattle.jfs_held_volumes.specs.Held.{Mount, Held, IsHeld}
+use Rattle.jfs_mounted_places.specs.held.specs.survival.specs.face.specs.Places.{Places, is_fixed_page}
+use Rattle.jfs_mounted_places.specs.held.specs.survival.specs.halves.specs.Half.{low_in}
+use Rattle.jfs_mounted_places.specs.held.specs.survival.specs.face.specs.Recovered.{IsVolumeAt}
+use Rattle.jfs_mounted_places.specs.held.specs.survival.specs.recovery.specs.Face.{Pages}
+use Rattle.jfs_mounted_places.specs.held.specs.image_volumes.specs.Stands.{FixedStay}
+use Rattle.jfs_mounted_places.specs.held.specs.Held.{Mount, Held, IsHeld}
 
 -- They lie where they did, whatever stands on the pages of the maps.
 abbrev pub PlacesLaw : Type 0

@@ -20,8 +20,8 @@ use Rattle.jfs_legal.specs.served.specs.shown.specs.meaning.specs.Readers.{reade
 use Rattle.jfs_legal.specs.served.specs.shown.specs.objects.specs.Volume.{Volume}
 use Rattle.jfs_legal.specs.served.specs.shown.specs.way.specs.Volume.{volume_of}
 use Rattle.jfs_calls_kept.specs.entries_kept.proofs.Newest.{newest_law}
-use Rattle.jfs_mounted_held.specs.Mounted.{low_of, from_mount}
-use Rattle.jfs_mounted_held.specs.mounted_places.specs.Mounted.{mount_of}
+use Rattle.jfs_mounted_maps.specs.mounted_held.specs.Mounted.{low_of, from_mount}
+use Rattle.jfs_mounted_maps.specs.mounted_held.specs.mounted_places.specs.Mounted.{mount_of}
 use Rattle.jfs_mounted_maps.specs.Keepable.{IsKeepableMount, IsHeldFromMount}
 use Rattle.jfs_mounted_maps.proofs.Mounted.{mounted_law, sound, superblock_law}
 use Rattle.jfs_mounted_pages.proofs.Mounted.{mounted_law as pages_law}

@@ -25,8 +25,8 @@ use Rattle.jfs_legal.specs.served.specs.Legal.{Timed}
 use Rattle.jfs_calls_kept.specs.Calls.{Joins}
 use Rattle.jfs_calls_kept.proofs.Does.{does_law}
 use Rattle.jfs_calls_kept.specs.entries_kept.proofs.Newest.{newest_law}
-use Rattle.jfs_mounted_held.specs.mounted_places.specs.Mounted.{mount_of}
-use Rattle.jfs_mounted_held.specs.mounted_places.specs.held.specs.survival.specs.recovery.specs.Face.{Pages}
+use Rattle.jfs_mounted_maps.specs.mounted_held.specs.mounted_places.specs.Mounted.{mount_of}
+use Rattle.jfs_mounted_maps.specs.mounted_held.specs.mounted_places.specs.held.specs.survival.specs.recovery.specs.Face.{Pages}
 use Rattle.jfs_kept_history.specs.Kept.{Lasting, lasting, noted_of, timed_in, Reaches, IsKeptSince}
 use Rattle.jfs_kept_history.specs.Laws.{CallLaw}
 use Rattle.jfs_kept_history.proofs.Same.{as_many, few, stepped}

@@ -13,8 +13,8 @@ use Rattle.jfs_crashes_redone.proofs.Redone.{crashed_law}
 use Rattle.jfs_points_kept.specs.kept_volumes.specs.Logs.{kept_with}
 use Rattle.jfs_points_kept.specs.kept_volumes.specs.joined_held.specs.Held.{held_at}
 use Rattle.jfs_points_kept.specs.kept_volumes.proofs.Besides.{beside_law}
-use Rattle.jfs_mounted_held.specs.mounted_places.specs.Mounted.{mount_of}
-use Rattle.jfs_kept_history.specs.Crash.{CrashLaw, AgainLaw}
+use Rattle.jfs_mounted_maps.specs.mounted_held.specs.mounted_places.specs.Mounted.{mount_of}
+use Rattle.jfs_kept_history.specs.Crash.{CrashLaw, RedoneAgainLaw}
 use Rattle.jfs_kept_history.proofs.Same.{as_many}
 use Rattle.jfs_kept_history.proofs.Targets.{same_consistent}
 
@@ -59,8 +59,8 @@ crash_law s page start list points p log old k beside crashed =
           });
     }
 
-pub again_law : AgainLaw
-again_law s page start list durable old clean accepted left txs new committed redone whole long bytes = record {
+pub redone_again_law : RedoneAgainLaw
+redone_again_law s page start list durable old clean accepted left txs new committed redone whole long bytes = record {
   superblock = redone.superblock ∙ ap (λ (state : _). record s { state = state }) (sym clean);
   accepted = subst (λ (n : ℕ). IsAccepted s n) (sym long) accepted;
   pages = whole;

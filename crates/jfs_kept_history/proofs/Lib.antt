@@ -13,3 +13,4 @@ pub mod Called
 pub mod Stays
 pub mod Marked
 pub mod Failed
+pub mod Unmounts

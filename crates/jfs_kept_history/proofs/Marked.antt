@@ -34,7 +34,7 @@ use Rattle.jfs_kept_history.proofs.Stays.{layout, low_size, read_back, consisten
 
 -- ---- a disk of which nothing is pending
 
-rests : (pages : Image) → IsResting (at_rest pages)
+pub rests : (pages : Image) → IsResting (at_rest pages)
 unfolding settled
 rests [] = refl
 rests (page ∷ pages) = ap (λ (rest : DiskState). resting page ∷ rest) (rests pages)

@@ -18,7 +18,7 @@ use Rattle.jfs_points_kept.specs.kept_volumes.proofs.Halts.{halt_law}
 use Rattle.jfs_points_kept.specs.kept_volumes.proofs.Kept.{kept_quiet_law}
 use Rattle.jfs_points_kept.specs.kept_volumes.proofs.Same.{same_law, settled_law}
 use Rattle.jfs_points_kept.specs.pages_held.specs.Beside.{KeepsFiles}
-use Rattle.jfs_mounted_held.specs.mounted_places.specs.Mounted.{mount_of}
+use Rattle.jfs_mounted_maps.specs.mounted_held.specs.mounted_places.specs.Mounted.{mount_of}
 use Rattle.jfs_kept_history.specs.Kept.{Lasting, IsKeptSince}
 use Rattle.jfs_kept_history.specs.Laws.{TakenLaw, ToldLaw, HaltedLaw, HandedLaw}
 use Rattle.jfs_kept_history.proofs.Same.{stepped}

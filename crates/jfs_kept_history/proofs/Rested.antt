@@ -19,7 +19,7 @@ use Rattle.jfs_crashes_redone.specs.Crashed.{HasCrashed, IsLogLeft}
 use Rattle.jfs_legal.specs.served.specs.halves.specs.Half.{LogHalf, Halves}
 use Rattle.jfs_legal.specs.served.specs.halves.specs.Parts.{Parts}
 use Rattle.jfs_legal.specs.served.specs.shown.specs.meaning.specs.Image as meaning
-use Rattle.jfs_mounted_held.specs.mounted_places.specs.Mounted.{mount_of}
+use Rattle.jfs_mounted_maps.specs.mounted_held.specs.mounted_places.specs.Mounted.{mount_of}
 use Rattle.jfs_points_kept.specs.kept_volumes.specs.Logs.{with_log, IsGroup, IsLogBeside}
 use Rattle.jfs_points_kept.specs.kept_volumes.proofs.Besides.{beside_law}
 use Rattle.jfs_kept_history.specs.Crash.{IsRedoneToHistory}

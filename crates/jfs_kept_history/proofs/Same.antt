@@ -9,8 +9,8 @@ use Rattle.jfs_legal.specs.served.specs.shown.specs.objects.specs.Volume.{Volume
 use Rattle.jfs_legal.specs.served.specs.shown.specs.meaning.specs.Image as meaning
 use Rattle.jfs_points_kept.specs.kept_volumes.specs.Keeper.{Keeper, GrowsBy}
 use Rattle.jfs_points_kept.specs.kept_volumes.specs.Kept.{IsKept, Steps}
-use Rattle.jfs_mounted_held.specs.mounted_places.specs.held.specs.survival.specs.recovery.specs.Face.{Pages}
-use Rattle.jfs_mounted_held.specs.mounted_places.specs.Mounted.{mount_of}
+use Rattle.jfs_mounted_maps.specs.mounted_held.specs.mounted_places.specs.held.specs.survival.specs.recovery.specs.Face.{Pages}
+use Rattle.jfs_mounted_maps.specs.mounted_held.specs.mounted_places.specs.Mounted.{mount_of}
 use Rattle.jfs_kept_history.specs.Kept.{Lasting, lasting, timed_in, Reaches, IsKeptSince}
 
 module _ (s : Super) (page : ℕ → List ℕ) (start : Parts) (list : List Lasting) (points : List ℕ) (old : Parts) (k : IsKeptSince s page start list points old) where

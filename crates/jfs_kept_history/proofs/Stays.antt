@@ -1,5 +1,6 @@
 -- Pages before the log that are the image's, or those that a mount writes.
-use Rattle.std.proofs.Common.{◌≡◌, ◌<◌, ◌+◌, ◌^◌, ℕ, suc, List, [], length, take, refl, sym, ap, subst, ◌∙◌, arith}
+use Rattle.std.proofs.Common.{◌≡◌, ◌<◌, ◌+◌, ◌^◌, ℕ, suc, List, [], length, take, true, sym, ap, subst, ◌∙◌, arith}
+use Rattle.std.proofs.Math.Path.{fun_ext}
 use Rattle.std.proofs.lemmas.List.{length-take, get_or-take, get_or-set_same}
 use Rattle.jfs_bits.proofs.Parts.{length-range_of}
 use Rattle.jfs_bits.proofs.SameMaps.{word-below}
@@ -14,20 +15,17 @@ use Rattle.jfs_super.specs.declared.fields.TheConstants.VolumeState.{MOUNTED}
 use Rattle.jfs_super.proofs.ReadBack.{InRange, super_of-puts}
 use Rattle.jfs_super.proofs.Rules.{accepted_layout, accepted_log, accepted_pages}
 use Rattle.jfs_legal.specs.served.specs.mounted.specs.Crashes.{HasArrays}
-use Rattle.jfs_legal.specs.served.specs.mounted.specs.Mount.{FoundOn}
+use Rattle.jfs_legal.specs.served.specs.mounted.proofs.Marked.{area_there, used_below, still_consistent, same_tree}
 use Rattle.jfs_legal.specs.served.specs.mounted.specs.mount_disk.specs.Begun.{marked, marked_page}
 use Rattle.jfs_legal.specs.served.specs.plain.specs.Moves.{Same}
-use Rattle.jfs_legal.specs.served.specs.shown.specs.Files.{KnowsFiles}
+use Rattle.jfs_legal.specs.served.specs.shown.specs.kinds.specs.Images.{IsSameVolume}
 use Rattle.jfs_legal.specs.served.specs.shown.specs.meaning.specs.Consistent.{IsConsistent}
 use Rattle.jfs_legal.specs.served.specs.shown.specs.meaning.specs.Image as meaning
 use Rattle.jfs_legal.specs.served.specs.shown.specs.meaning.specs.Readers.{readers}
 use Rattle.jfs_legal.specs.served.specs.shown.specs.meaning.specs.Tree.{tree_on}
+use Rattle.jfs_legal.specs.served.specs.shown.specs.objects.specs.Readers.{Readers}
 use Rattle.jfs_legal.specs.served.specs.shown.specs.objects.specs.Volume.{Volume}
-use Rattle.jfs_legal.specs.served.specs.shown.proofs.Files.{written_law}
-use Rattle.jfs_legal.specs.served.specs.unmount.proofs.Known.{mount_law}
-use Rattle.jfs_legal.specs.served.specs.unmount.proofs.Settled.{settled_law}
-use Rattle.jfs_mounted_maps.proofs.Keepable.{has_map_pages}
-use Rattle.jfs_mounted_maps.proofs.Rules.{past, whole_files}
+use Rattle.jfs_mounted_maps.proofs.Rules.{past, same_volume, whole_files}
 use Rattle.jfs_kept_history.specs.Keepable.{IsKeepableImage}
 use Rattle.jfs_kept_history.specs.Failed.{IsAsBefore}
 
@@ -132,35 +130,42 @@ module _ (s : Super) (image : Image) (c : IsKeepableImage s image) where
 
   -- ---- pages before the log that stay
 
-  module _ (left : Image) (stays : take s.logpxd.addr left ≡ take s.logpxd.addr image) (f : FoundOn s image) where
-    abbrev area : ℕ → ℕ
-    area = (meaning.volume_of s (page_of image)).area
+  module _ (left : Image) (stays : take s.logpxd.addr left ≡ take s.logpxd.addr image) where
+    abbrev r : Readers
+    r = readers (blocks_of s)
+
+    abbrev v : Volume
+    v = meaning.volume_of s (page_of image)
 
     page_stays : (b : ℕ) → b < s.logpxd.addr → page_of left b ≡ page_of image b
     page_stays b small = sym (get_or-take s.logpxd.addr left b [] small) ∙ ap (λ (im : Image). page_of im b) stays ∙ get_or-take s.logpxd.addr image b [] small
 
-    same : (b : ℕ) → b < blocks_of s → (b ≡ 8 → ⊥) → page_of left b ≡ page_of image b
-    same b below other = page_stays b (let behind = layout.behind in omega (arith, below, behind))
+    within : (b : ℕ) → b < blocks_of s → page_of left b ≡ page_of image b
+    within b below = page_stays b (let behind = layout.behind in omega (arith, below, behind))
 
-    knows : KnowsFiles s (page_of image) area f.maps.blocks f.maps.inodes f.maps.files
-    knows = mount_law s (page_of image) (page_of image) f.maps f.rest f.are consistent c.keepable.files (λ b other below. refl)
+    same : (b : ℕ) → b < blocks_of s → (b ≡ 8 → ⊥) → page_of left b ≡ page_of image b
+    same b below other = within b below
+
+    sets : IsSameVolume r v (meaning.volume_of s (page_of left))
+    sets = same_volume s (page_of image) (page_of left) consistent.sound c.keepable.files same
+
+    -- what it means is read from these pages
+    with_pages : meaning.volume_of s (page_of left) ≡ record v { page = page_of left }
+    with_pages = λ i. record { page = page_of left; extents = sets.extents i; area = fun_ext sets.area i; used = fun_ext sets.used i; in_use = fun_ext sets.in_use i }
+
+    keeps : (b : ℕ) → (b ≡ 8 → ⊥) → v.used b ≡ true → page_of left b ≡ page_of image b
+    keeps b other used = within b (used_below r (page_of image) (blocks_of s) b used)
+
+    first : 0 < v.area 8
+    first = area_there r s.ait2 s.aim2 (page_of image)
 
     pub as_before : IsAsBefore s image left
-    as_before =
-        let r = readers (blocks_of s) in
-        let kept = settled_law s (page_of image) (page_of left) area f.maps.blocks f.maps.inodes (record {
-          consistent = subst (λ (x : Volume). IsConsistent r x) (sym f.are.volume_is) consistent;
-          sizes = knows.sizes;
-          areas = knows.areas;
-          files = knows.whole;
-          shows = written_law s (page_of image) area f.maps.blocks f.maps.inodes f.maps.files knows f.rest.fresh.0 f.rest.fresh.1;
-        }) (λ b other below. same b below other) in
-        record {
-          superblock = ap (λ (page : List ℕ). super_of page) (page_stays 8 eight) ∙ c.superblock;
-          keepable = record {
-            consistent = kept.consistent;
-            files = whole_files s (page_of image) (page_of left) consistent.sound c.keepable.files same;
-            past = past s (page_of image) (page_of left) consistent.sound c.keepable.files same (has_map_pages s (page_of image) f.are.unbroken) c.keepable.past;
-          };
-          tree = subst (λ (x : Volume). Same (tree_on r x) (meaning.tree_of s (page_of left))) f.are.volume_is kept.tree;
-        }
+    as_before = record {
+      superblock = ap (λ (page : List ℕ). super_of page) (page_stays 8 eight) ∙ c.superblock;
+      keepable = record {
+        consistent = subst (λ (x : Volume). IsConsistent r x) (sym with_pages) (still_consistent r v consistent.sound first (page_of left) keeps consistent);
+        files = whole_files s (page_of image) (page_of left) consistent.sound c.keepable.files same;
+        past = past s (page_of image) (page_of left) consistent.sound c.keepable.files same c.keepable.past;
+      };
+      tree = subst (λ (x : Volume). Same (tree_on r v) (tree_on r x)) (sym with_pages) (same_tree r v consistent.sound first (page_of left) keeps);
+    }

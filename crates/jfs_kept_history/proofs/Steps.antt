@@ -17,7 +17,7 @@ use Rattle.jfs_points_kept.proofs.Homes.{home_all_law, sync_law}
 use Rattle.jfs_points_kept.proofs.Written.{home_maps_law}
 use Rattle.jfs_points_kept.proofs.Points.{settled_law, point_law, know_law}
 use Rattle.jfs_points_kept.specs.pages_held.specs.Homes.{AllTold}
-use Rattle.jfs_mounted_held.specs.mounted_places.specs.Mounted.{mount_of}
+use Rattle.jfs_mounted_maps.specs.mounted_held.specs.mounted_places.specs.Mounted.{mount_of}
 use Rattle.jfs_kept_history.specs.Kept.{Lasting, IsKeptSince}
 use Rattle.jfs_kept_history.specs.Laws as laws
 use Rattle.jfs_kept_history.proofs.Same.{as_many, same_entries, stepped}

@@ -42,6 +42,6 @@ CrashLaw = (s : Super) (page : ℕ → List ℕ) (start : Parts) (list : List La
     → IsLogBeside k.keeper log → HasCrashed s (with_log log k.keeper.both) old → IsRedoneToHistory s page start list log.durable old
 
 -- What redo makes of such a disk is a keepable image again, with the superblock that was mounted. So what is said of a run on a keepable image is said of the run behind a crash, too, and of each one behind that.
-abbrev pub AgainLaw : Type 0
-AgainLaw = (s : Super) (page : ℕ → List ℕ) (start : Parts) (list : List Lasting) (durable : ℕ) (old : Image) → s.state ≡ CLEAN → IsAccepted s (length old) → IsRedoneToHistory s page start list durable old
+abbrev pub RedoneAgainLaw : Type 0
+RedoneAgainLaw = (s : Super) (page : ℕ → List ℕ) (start : Parts) (list : List Lasting) (durable : ℕ) (old : Image) → s.state ≡ CLEAN → IsAccepted s (length old) → IsRedoneToHistory s page start list durable old
     → (txs : List (List Edit)) (new : Image) → AreCommitted s.logpxd.len (blocks_of s) (drop s.logpxd.addr old) txs → IsRedone s txs old new → ArePages (length new) new → length new ≡ length old → ((p : ℕ) → AreBytes (page_of new p)) → IsKeepableImage s new

@@ -1,13 +1,12 @@
--- What a crash leaves of a disk on which a mount failed by a fault.
+-- What a crash leaves of a disk on which no volume was mounted.
 use Rattle.std.specs.Prelude.{◌≡◌, ◌⊎◌, [], None}
 use Rattle.jfs_disk.specs.Image.{Image, page_of}
-use Rattle.jfs_disk.specs.declared.disk.Fault.{Fault}
 use Rattle.jfs_super.specs.Super.{super_of}
 use Rattle.jfs_super.specs.declared.fields.Super.{Super}
 use Rattle.jfs_legal.specs.served.specs.Laws.{HoldsImage}
 use Rattle.jfs_legal.specs.served.specs.halves.specs.Parts.{Parts}
 use Rattle.jfs_legal.specs.served.specs.mounted.specs.Mount.{LeavesLog, LeavesUntouched, WasCut, FoundOn}
-use Rattle.jfs_legal.specs.served.specs.mounted.specs.declared.mounted.MountError.TheVariants.{Disk}
+use Rattle.jfs_legal.specs.served.specs.mounted.specs.declared.mounted.MountError.{MountError}
 use Rattle.jfs_legal.specs.served.specs.mounted.specs.mount_disk.specs.Begun.{LeavesLow}
 use Rattle.jfs_legal.specs.served.specs.plain.specs.Moves.{Same}
 use Rattle.jfs_legal.specs.served.specs.shown.specs.meaning.specs.Image.{tree_of}
@@ -28,10 +27,10 @@ pub record IsRedoneToImage (s : Super) (image left : Image) : Type 0 where
   pub runs : start.halted ≡ None
   pub redone : IsRedoneToHistory s (page_of image) start [] 0 left
 
-abbrev pub LeavesUnmounted : Super → Image → Image → Type 0
-LeavesUnmounted s image left = IsAsBefore s image left ⊎ IsRedoneToImage s image left
+abbrev pub LeavesNeverMounted : Super → Image → Image → Type 0
+LeavesNeverMounted s image left = IsAsBefore s image left ⊎ IsRedoneToImage s image left
 
--- One of them is left, by what the clauses of a mount say of one that failed by this fault, of a keepable image.
+-- One of them is left, by what the clauses of a mount say of one that failed for this cause, of a keepable image.
 abbrev pub FailedLaw : Type 0
-FailedLaw = (s : Super) (image : Image) (fault : Fault) (left : Image) → IsKeepableImage s image → (WasCut (Disk fault) → FoundOn s image)
-    → LeavesLow s image left → LeavesUntouched s image (Disk fault) left → LeavesLog s image (Disk fault) left → LeavesUnmounted s image left
+FailedLaw = (s : Super) (image : Image) (why : MountError) (left : Image) → IsKeepableImage s image → (WasCut why → FoundOn s image)
+    → LeavesLow s image left → LeavesUntouched s image why left → LeavesLog s image why left → LeavesNeverMounted s image left

@@ -16,8 +16,8 @@ use Rattle.jfs_legal.specs.served.specs.shown.specs.objects.specs.Volume.{Volume
 use Rattle.jfs_records.specs.Records.{Noted}
 use Rattle.jfs_points_kept.specs.kept_volumes.specs.Kept.{IsKept}
 use Rattle.jfs_points_kept.specs.kept_volumes.specs.Keeper.{Keeper}
-use Rattle.jfs_mounted_held.specs.mounted_places.specs.held.specs.survival.specs.recovery.specs.Face.{Pages}
-use Rattle.jfs_mounted_held.specs.mounted_places.specs.Mounted.{mount_of}
+use Rattle.jfs_mounted_maps.specs.mounted_held.specs.mounted_places.specs.held.specs.survival.specs.recovery.specs.Face.{Pages}
+use Rattle.jfs_mounted_maps.specs.mounted_held.specs.mounted_places.specs.Mounted.{mount_of}
 
 -- ---- entries
 

@@ -30,7 +30,7 @@ use Rattle.jfs_legal.specs.served.specs.volume_calls.specs.Written.{KeepsPages}
 use Rattle.jfs_legal.specs.served.specs.Holds.{HoldsTree}
 use Rattle.jfs_legal.specs.served.specs.shown.specs.meaning.specs.Image as meaning
 use Rattle.jfs_points_kept.specs.Kept.{IsSettledIn}
-use Rattle.jfs_mounted_held.specs.mounted_places.specs.Mounted.{mount_of}
+use Rattle.jfs_mounted_maps.specs.mounted_held.specs.mounted_places.specs.Mounted.{mount_of}
 use Rattle.jfs_kept_history.specs.Keepable.{IsKeepableImage}
 use Rattle.jfs_kept_history.specs.Kept.{Lasting, timed_in, IsKeptSince}
 

@@ -5,7 +5,9 @@ pub mod Laws
 pub mod Crash
 pub mod Rested
 pub mod Failed
+pub mod Unmounted
 -- libraries below, passed on
 pub use Rattle.jfs_points_kept as points_kept
 pub use Rattle.jfs_crashes_redone as crashes_redone
-pub use Rattle.jfs_mounted_held as mounted_held
+pub use Rattle.jfs_mounted_maps.specs.mounted_held
+pub use Rattle.jfs_mounted_maps as mounted_maps

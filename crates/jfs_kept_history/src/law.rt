@@ -2,9 +2,10 @@
 
 ghost use Rattle.jfs_kept_history.specs.Laws.{BeginLaw, TakenLaw, ToldLaw, HaltedLaw, HandedLaw, HomeAllLaw, HomeMapsLaw, SyncLaw, SettledLaw, PointLaw, KnowLaw, CallLaw};
 ghost use Rattle.jfs_kept_history.specs.Keepable.{CheckedLaw, MountLaw};
-ghost use Rattle.jfs_kept_history.specs.Crash.{CrashLaw, AgainLaw};
+ghost use Rattle.jfs_kept_history.specs.Crash.{CrashLaw, RedoneAgainLaw};
 ghost use Rattle.jfs_kept_history.specs.Failed.{FailedLaw};
 ghost use Rattle.jfs_kept_history.specs.Rested.{ItemsLaw, RestedLaw, LostLaw};
+ghost use Rattle.jfs_kept_history.specs.Unmounted.{UnmountedAgainLaw};
 
 use jfs_disk::Disk;
 
@@ -85,7 +86,7 @@ pub fn crashes_are_redone_to_the_history()
 
 /// What redo makes of it is a keepable image again.
 pub fn redone_images_are_keepable()
-    ensures { AgainLaw }
+    ensures { RedoneAgainLaw }
 {}
 
 /// In the log of what keeps it stands what groups have taken, and nothing else since the mount.
@@ -103,7 +104,12 @@ pub fn lost_groups_are_redone_to_the_history<D: Disk>()
     ensures { LostLaw D.tells D.tells_crashes }
 {}
 
-/// Where a mount of a keepable image failed by a fault of the disk, a crash leaves the image's tree, or a disk that is redone to it.
+/// Where a mount of a keepable image failed, for whatever cause, a crash leaves the image's tree, or a disk that is redone to it.
 pub fn failed_mounts_leave_volumes()
     ensures { FailedLaw }
+{}
+
+/// An image that a kept volume leaves when it is unmounted is keepable again.
+pub fn unmounted_images_are_keepable()
+    ensures { UnmountedAgainLaw }
 {}

@@ -10,4 +10,5 @@ pub use law::{
     logs_have_what_was_taken, lost_groups_are_redone_to_the_history, maps_are_kept,
     mounts_are_kept, mounts_leave_whole_pages, points_are_kept, redone_images_are_keepable,
     rested_disks_are_redone_to_the_history, syncs_are_kept, syncs_settle_volumes,
+    unmounted_images_are_keepable,
 };

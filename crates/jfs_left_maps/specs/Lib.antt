@@ -1,3 +1,3 @@
 -- what the laws say
-pub mod Numbers
+pub mod Sizes
 pub mod Items

@@ -1,11 +1,11 @@
 //! What holds of the pages of a volume's maps, whatever a crash leaves of them.
 
 ghost use Rattle.jfs_left_maps.specs.Items.{FoursLaw, ItemsLaw};
-ghost use Rattle.jfs_left_maps.specs.Numbers.{NumbersLaw};
+ghost use Rattle.jfs_left_maps.specs.Sizes.{SizesLaw};
 
-/// The control pages of both maps say how many blocks and inode allocation groups there are, at each moment and after each crash.
-pub fn control_pages_keep_their_numbers()
-    ensures { NumbersLaw }
+/// The pages of both maps say how many blocks and inode allocation groups there are, and the bits of blocks past the volume's end are set, at each moment and after each crash.
+pub fn maps_say_their_sizes()
+    ensures { SizesLaw }
 {}
 
 /// What a crash leaves of an item of the maps is what it was after some entry, and redo of a window gives what it is after the window's last.

@@ -3,6 +3,4 @@
 
 mod law;
 
-pub use law::{
-    control_pages_keep_their_numbers, extents_have_four_blocks, items_are_of_the_history,
-};
+pub use law::{extents_have_four_blocks, items_are_of_the_history, maps_say_their_sizes};

@@ -1,5 +1,5 @@
 -- What a crash leaves of a disk whose parts were joined again.
-use Rattle.std.proofs.Common.{◌≡◌, ◌<◌, ◌≤◌, ◌+◌, ◌-◌, ℕ, List, [], ◌++◌, length, take, drop, inr, sym, ap, subst, ◌∙◌, arith}
+use Rattle.std.proofs.Common.{◌≡◌, ◌<◌, ◌≤◌, ◌+◌, ◌-◌, ℕ, List, [], ◌++◌, length, take, drop, Result, Err, inr, refl, sym, ap, subst, ◌∙◌, arith}
 use Rattle.std.proofs.lemmas.List.{length-append, length-take, length-drop, get_or-take, get_or-drop, get_or_append_left, get_or-append_right}
 use Rattle.jfs_disk.specs.Image.{Image, page_of}
 use Rattle.jfs_disk.specs.Crash.{DiskState, IsCrashImage, IsCrashPage, no_page, history_of, last_of, seen_of, AllSince, Leaves}
@@ -8,8 +8,10 @@ use Rattle.jfs_disk.proofs.Flow.{crash-resting, length-seen_of}
 use Rattle.jfs_disk.proofs.Outcomes.{tears_nothing}
 use Rattle.jfs_super.specs.declared.fields.Super.{Super}
 use Rattle.jfs_logpages.specs.Fresh.{IsFreshLog}
+use Rattle.jfs_disk.specs.declared.disk.DiskError.{DiskError}
+use Rattle.jfs_disk.specs.declared.disk.DiskError.TheVariants.{Failed, Memory}
 use Rattle.jfs_disk.specs.declared.disk.Fault.{Fault}
-use Rattle.jfs_mount_disk.specs.Begun.{marked_page, LeavesLow, LeavesLog, LeavesUntouched, IsLowCause}
+use Rattle.jfs_mount_disk.specs.Begun.{marked_page, LeavesLow, LeavesLog, LeavesUntouched, IsLowCause, low_error}
 use Rattle.jfs_mount_disk.specs.declared.ready.BeginError.{BeginError}
 use Rattle.jfs_mount_disk.specs.declared.ready.BeginError.TheVariants as errors
 
@@ -71,7 +73,12 @@ pub log_left : (s : Super) (old left : Image) (why : BeginError) → IsFreshLog 
 log_left s old left (errors.Disk fault) fresh = λ _. fresh
 log_left s old left errors.Memory fresh = inr fresh
 
--- a fault of the low part is none of the log's
-pub low_not_high : (s : Super) (old left : Image) (before now : ℕ) (why : BeginError) → IsLowCause before now why → LeavesUntouched s old why left
-low_not_high s old left before now (errors.Disk fault) cause = λ high. absurd (cc (high, ap (λ (f : Fault). f.part) cause.1))
-low_not_high s old left before now errors.Memory cause = tt
+-- A fault of the low part is none of the log's. Where memory ran out the low part's pages stayed.
+pub low_not_high : (s : Super) (old left : Image) (before now : ℕ) (why : BeginError) → IsLowCause before now why → (why ≡ errors.Memory → take s.logpxd.addr left ≡ take s.logpxd.addr old) → LeavesUntouched s old why left
+low_not_high s old left before now (errors.Disk fault) cause still = λ high. absurd (cc (high, ap (λ (f : Fault). f.part) cause.1))
+low_not_high s old left before now errors.Memory cause still = still refl
+
+-- a call that never wants memory fails otherwise
+pub not_memory : (e : DiskError) (count : ℕ) (why : BeginError) → why ≡ low_error e count → (e ≡ Memory → ⊥) → ◌≡◌ {A = Result (Unit {0}) BeginError} (Err why) (Err errors.Memory) → ⊥
+not_memory Failed count why is other said = absurd (cc (is, said))
+not_memory Memory count why is other said = other refl

@@ -91,7 +91,7 @@ abbrev pub LeavesLog : Super → Image → BeginError → Image → Type 0
 LeavesLog s old (errors.Disk fault) left = fault.part ≡ Low → IsFreshLog s.logpxd.len s.uuid (drop s.logpxd.addr left)
 LeavesLog s old errors.Memory left = (drop s.logpxd.addr left ≡ drop s.logpxd.addr old) ⊎ IsFreshLog s.logpxd.len s.uuid (drop s.logpxd.addr left)
 
--- Where the log's part failed, the pages before the log are as they were: they are written after it.
+-- Where the log's part failed, or memory ran out, the pages before the log are as they were: page 8 is written last, and a write takes no memory.
 abbrev pub LeavesUntouched : Super → Image → BeginError → Image → Type 0
 LeavesUntouched s old (errors.Disk fault) left = fault.part ≡ High → take s.logpxd.addr left ≡ take s.logpxd.addr old
-LeavesUntouched s old errors.Memory left = Unit {0}
+LeavesUntouched s old errors.Memory left = take s.logpxd.addr left ≡ take s.logpxd.addr old

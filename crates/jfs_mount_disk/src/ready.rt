@@ -1,6 +1,6 @@
 //! A disk is made ready for a volume that is mounted on it.
 
-ghost use Rattle.std.specs.Prelude.{◌≡◌, ◌<◌, ◌≤◌, ◌-◌, take, drop, IfOk, IfErr, OnOk};
+ghost use Rattle.std.specs.Prelude.{◌≡◌, ◌<◌, ◌≤◌, ◌-◌, Err, take, drop, IfOk, IfErr, OnOk};
 ghost use Rattle.jfs_disk.specs.Image.{page_of};
 ghost use Rattle.jfs_disk.specs.Crash.{last_of, AllSince, Leaves};
 ghost use Rattle.jfs_disk.specs.Moment.{IsResting, now_of};
@@ -110,6 +110,8 @@ fn mark_mounted<D: Disk>(low: &mut D, s: &Super) -> Result<(), BeginError>
     ensures resting { OnOk result (D.tells_crashes → IsResting (last_of (D.past low.new))) }
     ensures moments { D.tells → D.tells_crashes → IsResting (last_of (D.past low.old)) → AllSince (IsPartlyMarked s.now (D.image low.old)) (D.past low.new) (now_of (D.past low.old)) }
     ensures later { D.tells_crashes → now_of (D.past low.old) ≤ now_of (D.past low.new) }
+    // Memory lacks for a read alone.
+    ensures still { D.tells_crashes → result ≡ Err BeginError.Memory → D.past low.new ≡ D.past low.old }
     ensures read_back { OnOk result (D.tells → super_of (page_of (D.image low.new) 8) ≡ record s.now { state = MOUNTED }) }
     ensures quiet { OnOk result (D.fault_count low.new ≡ D.fault_count low.old) }
     ensures cause { IfErr result (IsLowCause (D.fault_count low.old) (D.fault_count low.new)) }

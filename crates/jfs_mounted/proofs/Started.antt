@@ -97,11 +97,11 @@ before_left s old left before now (found.BadImage bad) carries e = e
 before_left s old left before now (found.Read fault) carries e = (λ _. e, λ low. absurd (cc (low, ap (λ (f : Fault). f.part) carries.1)))
 before_left s old left before now found.Memory carries e = inl (ap (λ (im : Image). drop s.logpxd.addr im) e)
 
--- Before the cut a fault is the whole disk's.
-pub before_untouched : (s : Super) (old left : Image) (before now : ℕ) (why : MapsError) → CarriesMaps (record { part = Whole; count = before }) (record { part = Whole; count = now }) (Err why) → LeavesUntouched s old (refusal_of why) left
-before_untouched s old left before now (found.BadImage bad) carries = tt
-before_untouched s old left before now (found.Read fault) carries = λ high. absurd (cc (high, ap (λ (f : Fault). f.part) carries.1))
-before_untouched s old left before now found.Memory carries = tt
+-- Before the cut a fault is the whole disk's, and nothing was written.
+pub before_untouched : (s : Super) (old left : Image) (before now : ℕ) (why : MapsError) → CarriesMaps (record { part = Whole; count = before }) (record { part = Whole; count = now }) (Err why) → left ≡ old → LeavesUntouched s old (refusal_of why) left
+before_untouched s old left before now (found.BadImage bad) carries e = tt
+before_untouched s old left before now (found.Read fault) carries e = λ high. absurd (cc (high, ap (λ (f : Fault). f.part) carries.1))
+before_untouched s old left before now found.Memory carries e = ap (λ (im : Image). take s.logpxd.addr im) e
 
 pub before_cut : (before now : ℕ) (why : MapsError) → CarriesMaps (record { part = Whole; count = before }) (record { part = Whole; count = now }) (Err why) → WasCut (refusal_of why) → ⊥
 before_cut before now (found.BadImage bad) carries cut = cut
@@ -111,7 +111,7 @@ before_cut before now found.Memory carries cut = cut
 -- what is said of a disk that isn't ready is said of the mount
 pub untouched_of : (s : Super) (old left : Image) (why : BeginError) → OfBegin s old why left → LeavesUntouched s old (failure_of why) left
 untouched_of s old left (begins.Disk fault) h = h
-untouched_of s old left begins.Memory h = tt
+untouched_of s old left begins.Memory h = h
 
 -- the pages of the maps' files lie before the log, where they lie within the blocks
 pub files_of_low : (maps : FoundMaps) (layout : Geometry) (low : ℕ) → AreAtRest layout maps → layout.blocks ≤ low → AreFilesOf low (pages_of (length maps.blocks.states)) maps.inodes.iags maps.files

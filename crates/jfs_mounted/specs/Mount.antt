@@ -98,11 +98,11 @@ LeavesLog s old (BadImage bad) left = left ≡ old
 LeavesLog s old (Disk fault) left = (fault.part ≡ Whole → left ≡ old) × (fault.part ≡ Low → IsFreshLog s.logpxd.len s.uuid (drop s.logpxd.addr left))
 LeavesLog s old Memory left = (drop s.logpxd.addr left ≡ drop s.logpxd.addr old) ⊎ IsFreshLog s.logpxd.len s.uuid (drop s.logpxd.addr left)
 
--- Where the log's part failed, nothing of the pages before it was written.
+-- Where the log's part failed, or memory ran out, nothing of the pages before it was written.
 abbrev pub LeavesUntouched : Super → Image → MountError → Image → Type 0
 LeavesUntouched s old (BadImage bad) left = Unit {0}
 LeavesUntouched s old (Disk fault) left = fault.part ≡ High → take s.logpxd.addr left ≡ take s.logpxd.addr old
-LeavesUntouched s old Memory left = Unit {0}
+LeavesUntouched s old Memory left = take s.logpxd.addr left ≡ take s.logpxd.addr old
 
 -- a part of the disk failed: it had been cut
 abbrev pub WasCut : MountError → Type 0

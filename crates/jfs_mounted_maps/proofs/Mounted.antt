@@ -23,9 +23,9 @@ use Rattle.jfs_held_maps.proofs.Kept.{replaced}
 use Rattle.jfs_held_maps.proofs.Places.{first_law, area_within}
 use Rattle.jfs_held_volumes.specs.survival.specs.face.specs.Places.{is_map_page}
 use Rattle.jfs_held_maps.proofs.Mounted.{mounted_law as has_maps}
-use Rattle.jfs_joined_held.specs.Held.{volume_at}
-use Rattle.jfs_mounted_places.specs.Mounted.{SetsPast, mount_of}
-use Rattle.jfs_mounted_places.specs.Places.{groups_of, places_of}
+use Rattle.jfs_mounted_held.specs.joined_held.specs.Held.{volume_at}
+use Rattle.jfs_mounted_held.specs.mounted_places.specs.Mounted.{SetsPast, mount_of}
+use Rattle.jfs_mounted_held.specs.mounted_places.specs.Places.{groups_of, places_of}
 use Rattle.jfs_held_volumes.specs.survival.specs.recovery.specs.Face.{Pages}
 use Rattle.jfs_shown.specs.objects.specs.Readers.{Readers}
 use Rattle.jfs_mounted_held.specs.Mounted.{low_of, from_mount, shown_by, IsSoundMount}
@@ -77,7 +77,7 @@ module _ (s : Super) (old : Image) (p : Parts) (log : LogParts) (m : IsMountOf â
   has_pages = has_map_pages s (page_of old) mounts
 
   sets_past : SetsPast (places_of s low) low
-  sets_past = past s (page_of old) low consistent.sound files same has_pages to.keepable.past
+  sets_past = past s (page_of old) low consistent.sound files same to.keepable.past
 
   map_bytes : HasMapBytes (places_of s low) low
   map_bytes = bytes s (page_of old) low consistent.sound files same has_pages to.bytes

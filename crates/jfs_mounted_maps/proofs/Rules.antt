@@ -1,5 +1,5 @@
 -- The superblock's page alone is another one: no rule of the maps is broken by it, and the dmaps have the bits that they had.
-use Rattle.std.proofs.Common.{◌≡◌, ◌⊎◌, ◌≤◌, ◌<◌, ◌+◌, ◌*◌, ◌/◌, ◌%◌, ◌&&◌, ◌||◌, ◌==◌, not, nat_le, ℕ, suc, Bool, true, List, is_some, unwrap_or, None, sym, ap, ◌∙◌, subst, inl, inr, arith}
+use Rattle.std.proofs.Common.{◌≡◌, ◌⊎◌, ◌≤◌, ◌<◌, ◌+◌, ◌*◌, ◌/◌, ◌%◌, ◌&&◌, ◌||◌, ◌==◌, not, nat_le, ℕ, suc, Bool, true, false, List, Option, Some, is_some, unwrap_or, None, refl, sym, ap, ◌∙◌, subst, inl, inr, arith}
 use Rattle.std.specs.List.{range_with_len, prefix_len}
 use Rattle.std.proofs.Math.Path.{fun_ext}
 use Rattle.std.proofs.lemmas.Bool.{or_cases, and_parts, eqb-true}
@@ -18,20 +18,25 @@ use Rattle.jfs_mount.specs.Mount.{covered, iags, fits_extent, fitting, map_rows,
 use Rattle.jfs_mount.specs.Subject.{Subject, subject_of}
 use Rattle.jfs_shown.specs.Laws.{SamePlaces}
 use Rattle.jfs_shown.specs.bmap.specs.MapFile.{pages_of, is_in_use}
-use Rattle.jfs_shown.specs.kinds.specs.Images.{HasWholeFiles}
+use Rattle.jfs_shown.specs.kinds.specs.Images.{HasWholeFiles, IsSameVolume}
 use Rattle.jfs_shown.specs.meaning.specs.Image as meaning
 use Rattle.jfs_shown.specs.meaning.specs.Readers.{readers}
 use Rattle.jfs_shown.specs.objects.specs.Contents.{block_of}
 use Rattle.jfs_shown.specs.objects.specs.Image.{file_extents, file_page}
-use Rattle.jfs_shown.specs.objects.specs.Owners.{IsSound}
+use Rattle.jfs_shown.specs.objects.specs.Owners.{IsSound, owners, bit}
 use Rattle.jfs_shown.specs.objects.specs.Readers.{Readers}
 use Rattle.jfs_held_volumes.specs.image_volumes.proofs.Read.{file_page_is}
 use Rattle.jfs_held_volumes.specs.canonical_maps.specs.Laws.{HasMapBytes}
 use Rattle.jfs_held_volumes.specs.survival.specs.face.specs.Mounted.{HasMapPages}
 use Rattle.jfs_held_volumes.specs.survival.specs.face.specs.Places.{is_block_page, is_inode_page}
-use Rattle.jfs_mounted_places.specs.Mounted.{SetsPast}
-use Rattle.jfs_mounted_places.specs.Places.{places_of}
-use Rattle.jfs_redone_volumes.proofs.Superblock.{places, map_page, inode_page}
+use Rattle.jfs_mounted_held.specs.mounted_places.specs.Mounted.{SetsPast}
+use Rattle.jfs_mounted_held.specs.mounted_places.specs.Places.{places_of}
+use Rattle.jfs_redone_volumes.proofs.Superblock.{places, map_page, inode_page, superblock_law}
+use Rattle.jfs_unmount.specs.mounted.proofs.Marked.{area_there, used_below}
+
+is_none : (x : Option ℕ) → is_some x ≡ false → x ≡ None
+is_none None e = refl
+is_none (Some n) e = absurd (cc (e))
 
 -- the rules of a mount are those on the maps, and one more
 pub maps_hold : (s : Subject) → broken_mount s ≡ None → AllHold Holds (map_rows s)
@@ -50,6 +55,10 @@ module _ (s : Super) (old low : ℕ → List ℕ) (sound : IsSound (readers (blo
 
   files : SamePlaces r s.ait2 s.aim2 old low
   files = places r (blocks_of s) s.ait2 s.aim2 old low sound whole same
+
+  -- the sets and the objects are those that they were
+  pub same_volume : IsSameVolume r (meaning.volume_of s old) (meaning.volume_of s low)
+  same_volume = superblock_law r (blocks_of s) s.ait2 s.aim2 old low sound whole same
 
   pub whole_files : HasWholeFiles r low
   whole_files = files.whole whole
@@ -96,11 +105,27 @@ module _ (s : Super) (old low : ℕ → List ℕ) (sound : IsSound (readers (blo
         ),
       )
 
-  pub past : HasMapPages r (blocks_of s) old → SetsPast (places_of s old) old → SetsPast (places_of s low) low
-  past has sets k i used beyond small =
+  -- the superblock's page is one of the volume's
+  eight : 8 < blocks_of s
+  eight = by ((meaning.volume_of s old).used 8) refl (sound.agrees.blocks 8)
+    where
+      by : (x : Bool) → (meaning.volume_of s old).used 8 ≡ x → owners r (meaning.volume_of s old) 8 ≡ bit x → 8 < blocks_of s
+      by true e n = used_below r old (blocks_of s) 8 e
+      by false e n = let first = area_there r s.ait2 s.aim2 old in absurd (omega (arith, n, first))
+
+  -- a page of the block map's file, or the first page of all where there is none
+  block_stays : (n : ℕ) (b : Bool) → is_some (block_of (file_extents r old 2) n) ≡ b → low ((places_of s low).block_map n) ≡ old ((places_of s old).block_map n)
+  block_stays n true there = file_page_is r low 2 n (ap (λ (es : List Xad). is_some (block_of es n)) files.block_map ∙ there) ∙ block_page n ∙ sym (file_page_is r old 2 n there)
+  block_stays n false there =
+      let none : block_of (file_extents r old 2) n ≡ None = is_none (block_of (file_extents r old 2) n) there in
+      ap low (ap (λ (es : List Xad). unwrap_or (block_of es n) 0) files.block_map ∙ ap (λ (x : Option ℕ). unwrap_or x 0) none)
+      ∙ same 0 (let e = eight in omega (arith, e)) (λ e. omega (arith, e))
+      ∙ ap old (sym (ap (λ (x : Option ℕ). unwrap_or x 0) none))
+
+  pub past : SetsPast (places_of s old) old → SetsPast (places_of s low) low
+  past sets k i used beyond small =
       let n : ℕ = suc (suc (suc (suc k))) in
-      let there : is_some (block_of (file_extents r low 2) n) ≡ true = ap (λ (es : List Xad). is_some (block_of es n)) files.block_map ∙ has.block_map n used in
-      ap (λ (a : List ℕ). is_taken (range_of a 3072 1024) i) (file_page_is r low 2 n there ∙ block_page n ∙ sym (file_page_is r old 2 n (has.block_map n used))) ∙ sets k i used beyond small
+      ap (λ (a : List ℕ). is_taken (range_of a 3072 1024) i) (block_stays n (is_some (block_of (file_extents r old 2) n)) refl) ∙ sets k i used beyond small
 
   -- the maps' pages are pages of the image
   pub bytes : HasMapPages r (blocks_of s) old → ((p : ℕ) → AreBytes (old p)) → HasMapBytes (places_of s low) low

@@ -13,9 +13,9 @@ use Rattle.jfs_findings_new.specs.mount_rules.specs.Subject.{subject_of}
 use Rattle.jfs_shown.specs.kinds.specs.Images.{HasWholeFiles}
 use Rattle.jfs_shown.specs.meaning.specs.Image as meaning
 use Rattle.jfs_shown.specs.meaning.specs.Readers.{readers}
-use Rattle.jfs_mounted_places.specs.Mounted.{SetsPast, mount_of}
-use Rattle.jfs_mounted_places.specs.Places.{places_of}
-use Rattle.jfs_joined_held.specs.Held.{IsHeldAs, held_at}
+use Rattle.jfs_mounted_held.specs.mounted_places.specs.Mounted.{SetsPast, mount_of}
+use Rattle.jfs_mounted_held.specs.mounted_places.specs.Places.{places_of}
+use Rattle.jfs_mounted_held.specs.joined_held.specs.Held.{IsHeldAs, held_at}
 use Rattle.jfs_held_maps.specs.Maps.{KeepsMaps}
 use Rattle.jfs_mounted_held.specs.Mounted.{low_of, from_mount}
 

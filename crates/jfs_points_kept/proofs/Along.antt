@@ -15,19 +15,19 @@ use Rattle.jfs_kept_volumes.specs.commits_held.specs.volume_calls.specs.volume.s
 use Rattle.jfs_kept_volumes.specs.commits_held.specs.volume_calls.specs.volume.specs.data_steps.specs.After.{is_put, EachOnce}
 use Rattle.jfs_kept_volumes.specs.commits_held.specs.volume_calls.specs.volume.specs.data_steps.specs.declared.pages.DataPage.{DataPage}
 use Rattle.jfs_kept_volumes.specs.commits_held.specs.volume_calls.specs.volume.specs.data_steps.specs.objects.specs.Volume.{Volume}
-use Rattle.jfs_pages_held.proofs.Beside.{one_beside}
-use Rattle.jfs_pages_held.proofs.Bytes.{map_home_law}
-use Rattle.jfs_pages_held.proofs.Entry.{stand_apart, block_of, inode_of}
-use Rattle.jfs_pages_held.proofs.Homing.{homing_law, tear_law, itself, same_volume}
-use Rattle.jfs_pages_held.specs.Beside.{IsBeside}
-use Rattle.jfs_pages_held.specs.Homes.{AllTold, IsStaleBytes, homing, AreMapHomes, GoesHomeAlong}
-use Rattle.jfs_pages_held.specs.Pages.{PagesKept}
-use Rattle.jfs_pages_held.specs.joined_held.specs.Held.{IsHeldAs}
-use Rattle.jfs_pages_held.specs.joined_held.specs.held.proofs.Crash.{run_law}
-use Rattle.jfs_pages_held.specs.joined_held.specs.held.specs.Changes.{HasTheSame, MayChange, next, leaving, after, AllMay}
-use Rattle.jfs_pages_held.specs.joined_held.specs.held.specs.Held.{Mount, Held, IsHeld, face_at, newest_image}
-use Rattle.jfs_pages_held.specs.joined_held.specs.held.specs.survival.specs.Played.{IsMapHome}
-use Rattle.jfs_pages_held.specs.joined_held.specs.held.specs.survival.specs.face.specs.Places.{Places, is_block_page, is_inode_page, is_map_page}
+use Rattle.jfs_kept_volumes.specs.pages_held.proofs.Beside.{one_beside}
+use Rattle.jfs_kept_volumes.specs.pages_held.proofs.Bytes.{map_home_law}
+use Rattle.jfs_kept_volumes.specs.pages_held.proofs.Entry.{stand_apart, block_of, inode_of}
+use Rattle.jfs_kept_volumes.specs.pages_held.proofs.Homing.{homing_law, tear_law, itself, same_volume}
+use Rattle.jfs_kept_volumes.specs.pages_held.specs.Beside.{IsBeside}
+use Rattle.jfs_kept_volumes.specs.pages_held.specs.Homes.{AllTold, IsStaleBytes, homing, AreMapHomes, GoesHomeAlong}
+use Rattle.jfs_kept_volumes.specs.pages_held.specs.Pages.{PagesKept}
+use Rattle.jfs_kept_volumes.specs.pages_held.specs.joined_held.specs.Held.{IsHeldAs}
+use Rattle.jfs_kept_volumes.specs.pages_held.specs.joined_held.specs.held.proofs.Crash.{run_law}
+use Rattle.jfs_kept_volumes.specs.pages_held.specs.joined_held.specs.held.specs.Changes.{HasTheSame, MayChange, next, leaving, after, AllMay}
+use Rattle.jfs_kept_volumes.specs.pages_held.specs.joined_held.specs.held.specs.Held.{Mount, Held, IsHeld, face_at, newest_image}
+use Rattle.jfs_kept_volumes.specs.pages_held.specs.joined_held.specs.held.specs.survival.specs.Played.{IsMapHome}
+use Rattle.jfs_kept_volumes.specs.pages_held.specs.joined_held.specs.held.specs.survival.specs.face.specs.Places.{Places, is_block_page, is_inode_page, is_map_page}
 use Rattle.jfs_points_kept.proofs.Apart.{stale_apart}
 use Rattle.jfs_points_kept.proofs.Low.{AreLow, halves_are}
 use Rattle.jfs_points_kept.proofs.Places.{has_place, Each, put_places, first_once, all_first, IsStaleAt, stale_bytes, stale_each, finds_block, finds_inode}

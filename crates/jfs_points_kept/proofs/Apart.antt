@@ -5,9 +5,9 @@ use Rattle.std.proofs.lemmas.Option.{slice_get_within}
 use Rattle.jfs_kept_volumes.specs.commits_held.specs.volume_calls.specs.halves.specs.Parts.{Parts}
 use Rattle.jfs_kept_volumes.specs.commits_held.specs.volume_calls.specs.volume.specs.MapsHome.{MapPage, OfBlocks, OfInodes, block_pages, inode_pages, stale_pages}
 use Rattle.jfs_kept_volumes.specs.commits_held.specs.volume_calls.specs.volume.specs.bmap.specs.MapFile.{is_in_use}
-use Rattle.jfs_pages_held.specs.Pages.{MapsStand}
-use Rattle.jfs_pages_held.specs.joined_held.specs.held.specs.canonical_maps.specs.Places.{HaveOwnPlaces}
-use Rattle.jfs_pages_held.specs.joined_held.specs.held.specs.survival.specs.face.specs.Places.{Places}
+use Rattle.jfs_kept_volumes.specs.pages_held.specs.Pages.{MapsStand}
+use Rattle.jfs_kept_volumes.specs.pages_held.specs.joined_held.specs.held.specs.canonical_maps.specs.Places.{HaveOwnPlaces}
+use Rattle.jfs_kept_volumes.specs.pages_held.specs.joined_held.specs.held.specs.survival.specs.face.specs.Places.{Places}
 use Rattle.jfs_points_kept.proofs.Places.{place_of, has_place, Apart, Each}
 
 -- a place that no page has

@@ -14,19 +14,19 @@ use Rattle.jfs_kept_volumes.specs.commits_held.specs.volume_calls.specs.volume.s
 use Rattle.jfs_kept_volumes.specs.commits_held.specs.volume_calls.specs.volume.specs.data_steps.specs.objects.specs.Volume.{Volume}
 use Rattle.jfs_kept_volumes.specs.commits_held.specs.volume_calls.specs.volume.specs.pages.specs.declared.error.HomeError.{HomeError}
 use Rattle.jfs_kept_volumes.specs.commits_held.specs.volume_calls.specs.volume.specs.pages.specs.declared.error.HomeError.TheVariants.{NotYet, WriteFault}
-use Rattle.jfs_pages_held.proofs.Beside.{dirty_law, beside_law}
-use Rattle.jfs_pages_held.proofs.Homing.{itself, same_volume}
-use Rattle.jfs_pages_held.proofs.Maps.{leave_law}
-use Rattle.jfs_pages_held.proofs.Stay.{stay_law}
-use Rattle.jfs_pages_held.specs.Beside.{AreBeside, KeepsFiles}
-use Rattle.jfs_pages_held.specs.Homes.{AllTold}
-use Rattle.jfs_pages_held.specs.Pages.{MayBeDirty, HasHomes}
-use Rattle.jfs_pages_held.specs.joined_held.specs.Held.{volume_at, held_at}
-use Rattle.jfs_pages_held.specs.joined_held.specs.held.proofs.Crash.{run_law}
-use Rattle.jfs_pages_held.specs.joined_held.specs.held.proofs.Kept.{replaced}
-use Rattle.jfs_pages_held.specs.joined_held.specs.held.specs.Changes.{HasTheSame, next, leaving, after, AllMay}
-use Rattle.jfs_pages_held.specs.joined_held.specs.held.specs.Held.{Mount, Held, IsHeld}
-use Rattle.jfs_pages_held.specs.joined_held.specs.held.specs.survival.specs.face.specs.Places.{Places}
+use Rattle.jfs_kept_volumes.specs.pages_held.proofs.Beside.{dirty_law, beside_law}
+use Rattle.jfs_kept_volumes.specs.pages_held.proofs.Homing.{itself, same_volume}
+use Rattle.jfs_kept_volumes.specs.pages_held.proofs.Maps.{leave_law}
+use Rattle.jfs_kept_volumes.specs.pages_held.proofs.Stay.{stay_law}
+use Rattle.jfs_kept_volumes.specs.pages_held.specs.Beside.{AreBeside, KeepsFiles}
+use Rattle.jfs_kept_volumes.specs.pages_held.specs.Homes.{AllTold}
+use Rattle.jfs_kept_volumes.specs.pages_held.specs.Pages.{MayBeDirty, HasHomes}
+use Rattle.jfs_kept_volumes.specs.pages_held.specs.joined_held.specs.Held.{volume_at, held_at}
+use Rattle.jfs_kept_volumes.specs.pages_held.specs.joined_held.specs.held.proofs.Crash.{run_law}
+use Rattle.jfs_kept_volumes.specs.pages_held.specs.joined_held.specs.held.proofs.Kept.{replaced}
+use Rattle.jfs_kept_volumes.specs.pages_held.specs.joined_held.specs.held.specs.Changes.{HasTheSame, next, leaving, after, AllMay}
+use Rattle.jfs_kept_volumes.specs.pages_held.specs.joined_held.specs.held.specs.Held.{Mount, Held, IsHeld}
+use Rattle.jfs_kept_volumes.specs.pages_held.specs.joined_held.specs.held.specs.survival.specs.face.specs.Places.{Places}
 use Rattle.jfs_kept_volumes.specs.Kept.{IsKept, Steps}
 use Rattle.jfs_points_kept.specs.Steps.{HomeAllLaw, HomeOneLaw, SyncLaw}
 use Rattle.jfs_points_kept.proofs.Low.{AreLow, Low, keeps}

@@ -1,6 +1,6 @@
 -- Changes of the low part: they leave the log, the history and the sync counts, and lead to a keeper of the parts after them.
 use Rattle.std.proofs.Common.{◌≡◌, refl, sym, ap, ◌∙◌, subst, ℕ, true, List, [], ◌∷◌, ◌++◌, map, append-nil, IsSome, arith}
-use Rattle.jfs_held_maps.proofs.Kept.{run_law as run_maps}
+use Rattle.jfs_kept_volumes.specs.held_maps.proofs.Kept.{run_law as run_maps}
 use Rattle.jfs_kept_volumes.proofs.Made.{same_part, same_mounted}
 use Rattle.jfs_kept_volumes.proofs.Maps.{of_volume}
 use Rattle.jfs_kept_volumes.proofs.Rests.{rest_law}
@@ -13,14 +13,14 @@ use Rattle.jfs_kept_volumes.specs.commits_held.specs.volume_calls.specs.halves.s
 use Rattle.jfs_kept_volumes.specs.commits_held.specs.volume_calls.specs.halves.specs.Half.{VolumeHalf, Halves, block_in}
 use Rattle.jfs_kept_volumes.specs.commits_held.specs.volume_calls.specs.halves.specs.Moves.{Moves}
 use Rattle.jfs_kept_volumes.specs.commits_held.specs.volume_calls.specs.halves.specs.Parts.{Parts, StandsFor}
-use Rattle.jfs_pages_held.proofs.Beside.{dirty_law}
-use Rattle.jfs_pages_held.specs.Beside.{NoEntries, DirtyStays}
-use Rattle.jfs_pages_held.specs.joined_held.specs.Held.{blocks_at, volume_at, held_at}
-use Rattle.jfs_pages_held.specs.joined_held.specs.held.proofs.Crash.{run_law}
-use Rattle.jfs_pages_held.specs.joined_held.specs.held.specs.Changes.{Made, next, leaving, after, AllMay}
-use Rattle.jfs_pages_held.specs.joined_held.specs.held.specs.Held.{Mount, Held, IsHeld, face_at}
-use Rattle.jfs_pages_held.specs.joined_held.specs.held.specs.survival.proofs.Changes.{counted}
-use Rattle.jfs_pages_held.specs.joined_held.specs.held.specs.Laws.{StaysHeld}
+use Rattle.jfs_kept_volumes.specs.pages_held.proofs.Beside.{dirty_law}
+use Rattle.jfs_kept_volumes.specs.pages_held.specs.Beside.{NoEntries, DirtyStays}
+use Rattle.jfs_kept_volumes.specs.pages_held.specs.joined_held.specs.Held.{blocks_at, volume_at, held_at}
+use Rattle.jfs_kept_volumes.specs.pages_held.specs.joined_held.specs.held.proofs.Crash.{run_law}
+use Rattle.jfs_kept_volumes.specs.pages_held.specs.joined_held.specs.held.specs.Changes.{Made, next, leaving, after, AllMay}
+use Rattle.jfs_kept_volumes.specs.pages_held.specs.joined_held.specs.held.specs.Held.{Mount, Held, IsHeld, face_at}
+use Rattle.jfs_kept_volumes.specs.pages_held.specs.joined_held.specs.held.specs.survival.proofs.Changes.{counted}
+use Rattle.jfs_kept_volumes.specs.pages_held.specs.joined_held.specs.held.specs.Laws.{StaysHeld}
 use Rattle.jfs_kept_volumes.specs.commits_held.specs.volume_calls.specs.volume.specs.data_steps.specs.meaning.specs.Readers.{readers}
 use Rattle.jfs_kept_volumes.specs.commits_held.specs.volume_calls.specs.volume.specs.data_steps.specs.objects.specs.Volume.{Volume}
 

@@ -8,7 +8,7 @@ use Rattle.jfs_kept_volumes.specs.commits_held.specs.volume_calls.specs.volume.s
 use Rattle.jfs_kept_volumes.specs.commits_held.specs.volume_calls.specs.volume.specs.data_steps.specs.After.{is_put, EachOnce}
 use Rattle.jfs_kept_volumes.specs.commits_held.specs.volume_calls.specs.volume.specs.data_steps.specs.declared.pages.DataPage.{DataPage}
 use Rattle.jfs_kept_volumes.specs.commits_held.specs.volume_calls.specs.volume.specs.map_files.specs.imap.specs.Inodes.{Inodes}
-use Rattle.jfs_pages_held.specs.Homes.{of_blocks, of_inodes, IsStaleBytes}
+use Rattle.jfs_kept_volumes.specs.pages_held.specs.Homes.{of_blocks, of_inodes, IsStaleBytes}
 
 -- ---- lists of pages of a map
 

@@ -17,17 +17,17 @@ use Rattle.jfs_kept_volumes.specs.commits_held.specs.volume_calls.specs.halves.s
 use Rattle.jfs_kept_volumes.specs.commits_held.specs.volume_calls.specs.halves.specs.Half.{Halves, is_open}
 use Rattle.jfs_kept_volumes.specs.commits_held.specs.volume_calls.specs.halves.specs.Parts.{Parts, span_of}
 use Rattle.jfs_kept_volumes.specs.commits_held.specs.volume_calls.specs.volume.specs.data_steps.specs.objects.specs.Volume.{Volume}
-use Rattle.jfs_pages_held.proofs.Beside.{beside_law}
-use Rattle.jfs_pages_held.proofs.Homing.{itself}
-use Rattle.jfs_pages_held.proofs.Stay.{stay_law}
-use Rattle.jfs_pages_held.specs.Beside.{AreBeside, KeepsFiles}
-use Rattle.jfs_pages_held.specs.joined_held.specs.Held.{blocks_at, volume_at, held_at}
-use Rattle.jfs_pages_held.specs.joined_held.specs.held.proofs.Crash.{run_law}
-use Rattle.jfs_pages_held.specs.joined_held.specs.held.specs.Changes.{leaving, AllMay}
-use Rattle.jfs_pages_held.specs.joined_held.specs.held.specs.Held.{Mount, Held, face_at}
-use Rattle.jfs_pages_held.specs.joined_held.specs.held.specs.survival.proofs.Changes.{counted}
-use Rattle.jfs_pages_held.specs.joined_held.specs.held.specs.survival.specs.recovery.specs.Core.{count}
-use Rattle.jfs_pages_held.specs.joined_held.specs.held.specs.survival.specs.face.specs.Places.{is_block_page, is_inode_page, is_map_page}
+use Rattle.jfs_kept_volumes.specs.pages_held.proofs.Beside.{beside_law}
+use Rattle.jfs_kept_volumes.specs.pages_held.proofs.Homing.{itself}
+use Rattle.jfs_kept_volumes.specs.pages_held.proofs.Stay.{stay_law}
+use Rattle.jfs_kept_volumes.specs.pages_held.specs.Beside.{AreBeside, KeepsFiles}
+use Rattle.jfs_kept_volumes.specs.pages_held.specs.joined_held.specs.Held.{blocks_at, volume_at, held_at}
+use Rattle.jfs_kept_volumes.specs.pages_held.specs.joined_held.specs.held.proofs.Crash.{run_law}
+use Rattle.jfs_kept_volumes.specs.pages_held.specs.joined_held.specs.held.specs.Changes.{leaving, AllMay}
+use Rattle.jfs_kept_volumes.specs.pages_held.specs.joined_held.specs.held.specs.Held.{Mount, Held, face_at}
+use Rattle.jfs_kept_volumes.specs.pages_held.specs.joined_held.specs.held.specs.survival.proofs.Changes.{counted}
+use Rattle.jfs_kept_volumes.specs.pages_held.specs.joined_held.specs.held.specs.survival.specs.recovery.specs.Core.{count}
+use Rattle.jfs_kept_volumes.specs.pages_held.specs.joined_held.specs.held.specs.survival.specs.face.specs.Places.{is_block_page, is_inode_page, is_map_page}
 use Rattle.jfs_points_kept.proofs.Homes.{halts_stay, KeptBy, kept_by}
 use Rattle.jfs_kept_volumes.specs.Kept.{IsHeldAtRest, IsKept}
 use Rattle.jfs_points_kept.specs.Steps.{SettledLaw, PointLaw, KnowLaw}

@@ -23,22 +23,22 @@ use Rattle.jfs_kept_volumes.specs.commits_held.specs.volume_calls.specs.volume.s
 use Rattle.jfs_kept_volumes.specs.commits_held.specs.volume_calls.specs.volume.specs.data_steps.specs.objects.specs.Volume.{Volume}
 use Rattle.jfs_kept_volumes.specs.commits_held.specs.volume_calls.specs.volume.specs.map_files.specs.imap.specs.Inodes.{Inodes}
 use Rattle.jfs_kept_volumes.proofs.Made.{same_part}
-use Rattle.jfs_pages_held.proofs.Beside.{beside_law, marks_join}
-use Rattle.jfs_pages_held.proofs.Homing.{homing_law, itself, same_volume}
-use Rattle.jfs_pages_held.proofs.Stay.{stay_law}
-use Rattle.jfs_pages_held.specs.Beside.{MarksStay, DirtyStays, AreBeside}
-use Rattle.jfs_pages_held.specs.Homes.{AllTold, homing}
-use Rattle.jfs_pages_held.specs.Pages.{HasHomes, MayBeDirty, PagesKept}
-use Rattle.jfs_pages_held.specs.joined_held.specs.Held.{blocks_at, volume_at, held_at, IsHeldAs}
-use Rattle.jfs_pages_held.specs.joined_held.specs.held.proofs.Crash.{run_law}
-use Rattle.jfs_pages_held.specs.joined_held.specs.held.proofs.Kept.{replaced}
-use Rattle.jfs_pages_held.specs.joined_held.specs.held.proofs.Quiet.{quiet_law}
-use Rattle.jfs_pages_held.specs.joined_held.specs.held.specs.Changes.{HasTheSame, next, leaving, after, AllMay}
-use Rattle.jfs_pages_held.specs.joined_held.specs.held.specs.Held.{Mount, Held, IsHeld, face_at}
-use Rattle.jfs_pages_held.specs.joined_held.specs.held.specs.survival.specs.Lists.{ArePlain}
-use Rattle.jfs_pages_held.specs.joined_held.specs.held.specs.survival.specs.Played.{MapsAreSynced}
-use Rattle.jfs_pages_held.specs.joined_held.specs.held.specs.survival.specs.face.specs.Places.{Places, is_block_page, is_inode_page, is_map_page}
-use Rattle.jfs_pages_held.specs.joined_held.specs.held.specs.survival.specs.recovery.specs.Core.{Core, count}
+use Rattle.jfs_kept_volumes.specs.pages_held.proofs.Beside.{beside_law, marks_join}
+use Rattle.jfs_kept_volumes.specs.pages_held.proofs.Homing.{homing_law, itself, same_volume}
+use Rattle.jfs_kept_volumes.specs.pages_held.proofs.Stay.{stay_law}
+use Rattle.jfs_kept_volumes.specs.pages_held.specs.Beside.{MarksStay, DirtyStays, AreBeside}
+use Rattle.jfs_kept_volumes.specs.pages_held.specs.Homes.{AllTold, homing}
+use Rattle.jfs_kept_volumes.specs.pages_held.specs.Pages.{HasHomes, MayBeDirty, PagesKept}
+use Rattle.jfs_kept_volumes.specs.pages_held.specs.joined_held.specs.Held.{blocks_at, volume_at, held_at, IsHeldAs}
+use Rattle.jfs_kept_volumes.specs.pages_held.specs.joined_held.specs.held.proofs.Crash.{run_law}
+use Rattle.jfs_kept_volumes.specs.pages_held.specs.joined_held.specs.held.proofs.Kept.{replaced}
+use Rattle.jfs_kept_volumes.specs.pages_held.specs.joined_held.specs.held.proofs.Quiet.{quiet_law}
+use Rattle.jfs_kept_volumes.specs.pages_held.specs.joined_held.specs.held.specs.Changes.{HasTheSame, next, leaving, after, AllMay}
+use Rattle.jfs_kept_volumes.specs.pages_held.specs.joined_held.specs.held.specs.Held.{Mount, Held, IsHeld, face_at}
+use Rattle.jfs_kept_volumes.specs.pages_held.specs.joined_held.specs.held.specs.survival.specs.Lists.{ArePlain}
+use Rattle.jfs_kept_volumes.specs.pages_held.specs.joined_held.specs.held.specs.survival.specs.Played.{MapsAreSynced}
+use Rattle.jfs_kept_volumes.specs.pages_held.specs.joined_held.specs.held.specs.survival.specs.face.specs.Places.{Places, is_block_page, is_inode_page, is_map_page}
+use Rattle.jfs_kept_volumes.specs.pages_held.specs.joined_held.specs.held.specs.survival.specs.recovery.specs.Core.{Core, count}
 use Rattle.jfs_points_kept.proofs.Along.{joined_map, fit_split, homes, once, stale, clean_block, clean_inode, may_behind}
 use Rattle.jfs_points_kept.proofs.Homes.{AreHomes, homes_may}
 use Rattle.jfs_points_kept.proofs.Low.{halves_are}

@@ -20,18 +20,18 @@ use Rattle.jfs_kept_volumes.specs.commits_held.specs.volume_calls.specs.volume.s
 use Rattle.jfs_kept_volumes.specs.commits_held.specs.volume_calls.specs.volume.specs.data_steps.specs.objects.specs.Volume.{Volume}
 use Rattle.jfs_kept_volumes.specs.commits_held.specs.volume_calls.specs.volume.specs.map_files.specs.declared.map_file.MapFiles.{MapFiles}
 use Rattle.jfs_kept_volumes.specs.commits_held.specs.volume_calls.specs.volume.specs.map_files.specs.imap.specs.Inodes.{Inodes, extent_at}
-use Rattle.jfs_pages_held.proofs.Homing.{same_volume}
-use Rattle.jfs_pages_held.proofs.Maps.{maps_law}
-use Rattle.jfs_pages_held.proofs.Stay.{moved}
-use Rattle.jfs_pages_held.specs.Homes.{AllTold, homing, GoesHomeAlong, SameButMaps}
-use Rattle.jfs_pages_held.specs.joined_held.specs.Held.{blocks_at, volume_at, held_at}
-use Rattle.jfs_pages_held.specs.joined_held.specs.held.proofs.Crash.{run_law}
-use Rattle.jfs_pages_held.specs.joined_held.specs.held.specs.Changes.{leaving, after, AllMay}
-use Rattle.jfs_pages_held.specs.joined_held.specs.held.specs.Held.{Mount, Held, IsHeld, IsImageAt, newest_image}
-use Rattle.jfs_pages_held.specs.joined_held.specs.held.specs.survival.specs.face.specs.Items.{extent_by}
-use Rattle.jfs_pages_held.specs.joined_held.specs.held.specs.survival.specs.face.specs.Places.{Places, is_block_page, is_inode_page, is_map_page}
-use Rattle.jfs_pages_held.specs.joined_held.specs.held.specs.survival.specs.face.specs.Volume.{items_on}
-use Rattle.jfs_pages_held.specs.joined_held.specs.held.specs.survival.specs.recovery.specs.Face.{Pages}
+use Rattle.jfs_kept_volumes.specs.pages_held.proofs.Homing.{same_volume}
+use Rattle.jfs_kept_volumes.specs.pages_held.proofs.Maps.{maps_law}
+use Rattle.jfs_kept_volumes.specs.pages_held.proofs.Stay.{moved}
+use Rattle.jfs_kept_volumes.specs.pages_held.specs.Homes.{AllTold, homing, GoesHomeAlong, SameButMaps}
+use Rattle.jfs_kept_volumes.specs.pages_held.specs.joined_held.specs.Held.{blocks_at, volume_at, held_at}
+use Rattle.jfs_kept_volumes.specs.pages_held.specs.joined_held.specs.held.proofs.Crash.{run_law}
+use Rattle.jfs_kept_volumes.specs.pages_held.specs.joined_held.specs.held.specs.Changes.{leaving, after, AllMay}
+use Rattle.jfs_kept_volumes.specs.pages_held.specs.joined_held.specs.held.specs.Held.{Mount, Held, IsHeld, IsImageAt, newest_image}
+use Rattle.jfs_kept_volumes.specs.pages_held.specs.joined_held.specs.held.specs.survival.specs.face.specs.Items.{extent_by}
+use Rattle.jfs_kept_volumes.specs.pages_held.specs.joined_held.specs.held.specs.survival.specs.face.specs.Places.{Places, is_block_page, is_inode_page, is_map_page}
+use Rattle.jfs_kept_volumes.specs.pages_held.specs.joined_held.specs.held.specs.survival.specs.face.specs.Volume.{items_on}
+use Rattle.jfs_kept_volumes.specs.pages_held.specs.joined_held.specs.held.specs.survival.specs.recovery.specs.Face.{Pages}
 use Rattle.jfs_points_kept.proofs.Along.{writes_low, joined_map, writes_fit, shown_stays, after_joins, homes, of_map, stale, home, clean_block, clean_inode, front_homes, next_home, may_behind, image_behind}
 use Rattle.jfs_points_kept.proofs.Low.{AreLow, low_join, last_all, Low, keeps}
 use Rattle.jfs_kept_volumes.specs.Kept.{IsKept, Steps}

@@ -4,4 +4,4 @@ pub mod Steps
 pub mod Syncpoint
 -- libraries below, passed on
 pub use Rattle.jfs_kept_volumes as kept_volumes
-pub use Rattle.jfs_pages_held as pages_held
+pub use Rattle.jfs_kept_volumes.specs.pages_held

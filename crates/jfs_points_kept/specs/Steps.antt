@@ -12,8 +12,8 @@ use Rattle.jfs_kept_volumes.specs.commits_held.specs.volume_calls.specs.volume.s
 use Rattle.jfs_kept_volumes.specs.commits_held.specs.volume_calls.specs.volume.specs.Settles.{HomesAlone, HaltsAt, HomeHalts}
 use Rattle.jfs_kept_volumes.specs.commits_held.specs.volume_calls.specs.volume.specs.pages.specs.Dirty.{dirty_of}
 use Rattle.jfs_kept_volumes.specs.commits_held.specs.volume_calls.specs.volume.specs.pages.specs.declared.error.HomeError.{HomeError}
-use Rattle.jfs_pages_held.specs.Homes.{AllTold}
-use Rattle.jfs_pages_held.specs.joined_held.specs.held.specs.Held.{Mount}
+use Rattle.jfs_kept_volumes.specs.pages_held.specs.Homes.{AllTold}
+use Rattle.jfs_kept_volumes.specs.pages_held.specs.joined_held.specs.held.specs.Held.{Mount}
 use Rattle.jfs_kept_volumes.specs.Kept.{IsKept, Steps}
 use Rattle.jfs_points_kept.specs.Kept.{IsSettledIn}
 

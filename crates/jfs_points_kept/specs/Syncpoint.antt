@@ -1,4 +1,4 @@
--- A syncpoint as a whole, as an unmount makes it.
+-- A syncpoint as a whole.
 use Rattle.std.specs.Prelude.{◌≡◌, ℕ, Bool, true, List, None, Result}
 use Rattle.jfs_disk.specs.declared.disk.Fault.{Fault}
 use Rattle.jfs_kept_volumes.specs.commits_held.specs.volume_calls.specs.Syncpoint.{SyncpointIs}
@@ -9,11 +9,11 @@ use Rattle.jfs_kept_volumes.specs.commits_held.specs.volume_calls.specs.halves.s
 use Rattle.jfs_kept_volumes.specs.commits_held.specs.volume_calls.specs.halves.specs.Parts.{Parts}
 use Rattle.jfs_kept_volumes.specs.commits_held.specs.volume_calls.specs.volume.specs.Settles.{Settles}
 use Rattle.jfs_kept_volumes.specs.commits_held.specs.volume_calls.specs.volume.specs.data_steps.specs.objects.specs.Volume.{Volume}
-use Rattle.jfs_pages_held.specs.Pages.{PagesKept}
-use Rattle.jfs_pages_held.specs.joined_held.specs.Held.{volume_at, held_at, IsHeldAs}
-use Rattle.jfs_pages_held.specs.joined_held.specs.held.specs.Changes.{leaving, AllMay}
-use Rattle.jfs_pages_held.specs.joined_held.specs.held.specs.Held.{Mount}
-use Rattle.jfs_pages_held.specs.joined_held.specs.held.specs.survival.specs.recovery.specs.Core.{Core}
+use Rattle.jfs_kept_volumes.specs.pages_held.specs.Pages.{PagesKept}
+use Rattle.jfs_kept_volumes.specs.pages_held.specs.joined_held.specs.Held.{volume_at, held_at, IsHeldAs}
+use Rattle.jfs_kept_volumes.specs.pages_held.specs.joined_held.specs.held.specs.Changes.{leaving, AllMay}
+use Rattle.jfs_kept_volumes.specs.pages_held.specs.joined_held.specs.held.specs.Held.{Mount}
+use Rattle.jfs_kept_volumes.specs.pages_held.specs.joined_held.specs.held.specs.survival.specs.recovery.specs.Core.{Core}
 
 -- Its changes may be made, one after the other: so whatever a crash leaves at any moment of it is known.
 pub record IsRunOfSyncpoint (m : Mount) (area : ℕ → ℕ) (asked : Bool) (old new : Parts) (log : LogParts) (both : Halves) (core : Core) (volumes : ℕ → Volume) : Type 0 where

@@ -1,7 +1,7 @@
 -- A run on a mounted volume ends.
 use Rattle.std.proofs.Common.{◌≡◌, ◌⊎◌, ◌+◌, ◌-◌, ◌<◌, ◌≤◌, ◌^◌, refl, sym, ap, ◌∙◌, subst, ℕ, suc, Bool, true, false, List, [], ◌∷◌, length, inl, inr, arith}
 use Rattle.std.specs.Prelude.{◌==◌, ◌||◌, not, min, if◌then◌else◌}
-use Rattle.std.proofs.lemmas.Bool.{cases_eq, eq-eqb, eqb-true, ne_eqb, false≢true}
+use Rattle.std.proofs.lemmas.Bool.{cases_eq, eq-eqb, eqb-true, ne_eqb}
 use Rattle.std.proofs.lemmas.List.{length-map}
 use Rattle.std.specs.Global.{Vec}
 use Rattle.jfs_bits.specs.Count.{Rose}
@@ -22,14 +22,14 @@ use Rattle.jfs_server.specs.declared.stopping.Ending.TheVariants.{Home, Left, Fu
 use Rattle.jfs_run.specs.Ending.{IsEnded, RunSince, is_home, are_through, end_after}
 use Rattle.jfs_run.specs.Mounted.{State, state, PartRose, Since}
 use Rattle.jfs_run.specs.Run.{Seen, IsUnmounted}
-use Rattle.jfs_run.specs.Serving.{IsUncalled, IsCalled, IsServed}
+use Rattle.jfs_run.specs.Serving.{IsCalled, IsServed}
 use Rattle.jfs_run.specs.Tasks.{plan_of}
 use Rattle.jfs_run.specs.Telling.{marks_of, told_from, marks_in}
 use Rattle.jfs_run.specs.declared.run.RunEnd.TheVariants as ends
 use Rattle.jfs_run.specs.declared.serving.Called.{Called}
 use Rattle.jfs_run.proofs.Counts.{both_grow, both_rose}
 use Rattle.jfs_run.proofs.Marked.{AreAll, are_all, fronts}
-use Rattle.jfs_run.proofs.Plans.{no_fronts, whole, many_marks}
+use Rattle.jfs_run.proofs.Plans.{whole, many_marks}
 use Rattle.jfs_run.proofs.Told.{AreReached, told_rise, told_front, told_whole}
 
 abbrev pub calls_of : List Entry → List ℕ → Calls
@@ -61,18 +61,6 @@ module _ {D : Type 0} (d : Ghosts D) (scripts : List (Vec Line)) (now : Moment) 
     (told_is : told ≡ told_from 1 x.mounted.log.durable (marks_of (marks_in marks) x.history.items)) (is_left : Bool) (served : IsServed d scripts now is_left image s first marks x) where
   abbrev last : State
   last = state d x.mounted.volume x.mounted.log
-
-  without_calls : IsUncalled d x → HasRun (plan_of scripts) first x.history.items told x.is_whole last
-  without_calls u =
-      let none : told ≡ [] = told_is ∙ ap (λ (es : List Entry). told_from 1 x.mounted.log.durable (marks_of (marks_in marks) es)) u.history in
-      subst {A = List Entry × List ℕ} (λ z. HasRun (plan_of scripts) first z.0 z.1 x.is_whole last) (λ i. (sym u.history i, sym none i)) record {
-        fronts = no_fronts (plan_of scripts);
-        whole = λ is. absurd (false≢true (sym u.is_whole ∙ is));
-        first_told = record { waiting = []; are = tt; count = 0; told_is = refl };
-        all_told = inl (record { waiting = []; are = tt; told_is = refl });
-        calm = inl refl;
-        since = served.since;
-      }
 
   module _ (c : IsCalled d scripts now image s first marks x) where
     abbrev durable : ℕ
@@ -115,12 +103,8 @@ module _ {D : Type 0} (d : Ghosts D) (scripts : List (Vec Line)) (now : Moment) 
       since = served.since;
     }
 
-  run_by : IsUncalled d x ⊎ IsCalled d scripts now image s first marks x → HasRun (plan_of scripts) first x.history.items told x.is_whole last
-  run_by (inl u) = without_calls u
-  run_by (inr c) = with_calls c
-
   pub has_run : HasRun (plan_of scripts) first x.history.items told x.is_whole last
-  has_run = run_by served.calls
+  has_run = with_calls served.calls
 
 pub rising : (history : List Entry) (told : List ℕ) → FirstTold (calls_of history told) → IsRisingFrom 1 told
 rising history told is = subst (IsRisingFrom 1) (sym is.told_is) (told_rise is.count is.waiting)
@@ -146,11 +130,6 @@ home_of Full e = absurd (cc (e))
 pub at_last : {A : Type 0} (B : Type 0) → (A → ⊥) → A ⊎ B → B
 at_last B none (inl a) = absurd (none a)
 at_last B none (inr b) = b
-
--- a run that didn't end for want of memory is through
-pub not_short : (is_through is_full : Bool) (before now : ℕ) → (end_after is_through is_full before now ≡ ends.Memory → ⊥) → is_through ≡ true
-not_short true is_full before now other = refl
-not_short false is_full before now other = absurd (other refl)
 
 -- said of fewer lines
 pub with_lines : (plan : List (List Line)) (first now : State) (history : List Entry) (told : List ℕ) (is_whole is_through : Bool) → (is_through ≡ true → is_whole ≡ true) → HasRun plan first history told is_whole now → HasRun plan first history told is_through now

@@ -12,7 +12,7 @@ use Rattle.jfs_run.specs.Run.{Seen, MayMount, StayBeside, IsUncalled, IsUnmounte
 use Rattle.jfs_server.specs.shared.specs.legal.specs.served.specs.mounted.specs.Mount.{IsMountCause, IsRefusal, IsBeforeCut}
 use Rattle.jfs_server.specs.shared.specs.legal.specs.served.specs.mounted.specs.declared.mounted.MountError.{MountError}
 use Rattle.jfs_server.specs.shared.specs.legal.specs.served.specs.mounted.specs.declared.mounted.MountError.TheVariants as mounts
-use Rattle.jfs_run.specs.Ending.{RunSince, FailsToTake, end_of}
+use Rattle.jfs_run.specs.Ending.{RunSince, end_of}
 use Rattle.jfs_run.specs.declared.run.RunEnd.{RunEnd}
 use Rattle.jfs_run.specs.declared.run.RunEnd.TheVariants as ends
 
@@ -33,13 +33,6 @@ module _ (tells crashes : Type 0) (s : Super) (plan : List (List Line)) (is_left
 
   pub unbegun : (tells → StayBeside s old.image new.image) → RunIs tells crashes s plan is_left old new nothing ends.Memory
   unbegun pages = record { done = inl (uncalled pages); told = inr (record { waiting = []; are = tt; told_is = refl }); calm = inr refl }
-
-  -- a taking failed
-  pub took_nothing : (end : RunEnd) → FailsToTake old.faults new.faults end → (tells → StayBeside s old.image new.image) → RunIs tells crashes s plan is_left old new nothing end
-  took_nothing ends.Done cause pages = absurd cause
-  took_nothing (ends.BadImage bad) cause pages = absurd cause
-  took_nothing ends.Disk cause pages = unread cause pages
-  took_nothing ends.Memory cause pages = unbegun pages
 
   -- the mount was refused
   pub unmounted : (why : MountError) → (tells → IsRefusal s old.image why) → IsMountCause old.faults new.faults why → (tells → StayBeside s old.image new.image) → (tells → IsBeforeCut why → new.image ≡ old.image) → (crashes → IsBeforeCut why → new.past ≡ old.past)

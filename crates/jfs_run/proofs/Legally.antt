@@ -13,6 +13,10 @@ use Rattle.jfs_server.specs.shared.specs.legal.proofs.Replying.{Laws}
 use Rattle.jfs_server.specs.shared.specs.legal.specs.served.specs.halves.specs.Parts.{Parts}
 use Rattle.jfs_server.specs.shared.specs.legal.specs.served.specs.Holds.{KeepsTree}
 use Rattle.jfs_server.specs.shared.specs.legal.specs.served.specs.Laws.{IsImageOf}
+use Rattle.jfs_server.specs.shared.specs.legal.specs.served.specs.shown.specs.Files.{KnowsFiles}
+use Rattle.jfs_server.specs.shared.specs.legal.specs.served.proofs.Files.{consistent_in}
+use Rattle.jfs_server.specs.shared.specs.kept_history.specs.Unmounted.{LeavesKeepable}
+use Rattle.jfs_server.specs.shared.specs.kept_history.specs.mounted_maps.specs.Keepable.{IsKeepable}
 use Rattle.jfs_server.specs.shared.specs.legal.specs.served.specs.shown.specs.kinds.specs.Images.{HasWholeFiles}
 use Rattle.jfs_server.specs.shared.specs.legal.specs.served.specs.unmount.specs.Unmount.{IsAllHome, IsMarkedLeft}
 use Rattle.jfs_run.specs.Legal.{all_at, IsLegalRun, FollowsTree, EndsOnTree, HasReplied}
@@ -36,9 +40,11 @@ module _ (s : Super) (page : ℕ → List ℕ) (now : Moment) (es : List Entry) 
     kept : KeepsTree area s.logpxd.len r.over.last p
     kept = r.over.keeps runs
 
+    knows : KnowsFiles s (page_of p.view) area p.map p.inodes p.files
+    knows = kept.files s (laws.history.files area s.logpxd.len r.start r.over.last (all_at now es) r.over.legal s (r.holds.knows whole_files))
+
     last_image : IsImageOf s area r.over.last (page_of image)
     last_image =
-        let knows = kept.files s (laws.history.files area s.logpxd.len r.start r.over.last (all_at now es) r.over.legal s (r.holds.knows whole_files)) in
         let of_p = laws.unmounted s area p image r.over.holds knows home (marked.superblock_is ∙ is) marked.pages_are in
         record {
           superblock = of_p.superblock;
@@ -50,3 +56,7 @@ module _ (s : Super) (page : ℕ → List ℕ) (now : Moment) (es : List Entry) 
     pub ends_on : EndsOnTree s page now es image
     unfolding follows
     ends_on = record { follows = follows; ends = record { last = r.over.last; legal = r.over.legal; image_is = last_image } }
+
+    -- and it is keepable again
+    pub keepable_on : LeavesKeepable s page p → IsKeepable s (page_of image)
+    keepable_on again = again (page_of image) (record { files = knows; consistent = consistent_in s area s.logpxd.len p r.over.holds knows; home = home }) (record { pages = marked.pages_are; disk = marked.disk_are }) last_image.consistent

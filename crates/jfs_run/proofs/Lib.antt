@@ -12,6 +12,5 @@ pub mod Ended
 pub mod Begun
 pub mod Legally
 pub mod Finished
-pub mod Replied
 pub mod Home
-pub mod Unmounted
+pub mod NeverMounted

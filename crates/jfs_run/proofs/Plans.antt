@@ -22,14 +22,6 @@ whole_begins plan history have = record { each = each 1 plan have.each; others =
     each k [] all = tt
     each k (lines ∷ more) all = ((length lines, omega arith, subst (λ (ls : List Line). AreEntriesOf k ls (entries_of k history)) (sym (take_all (length lines) lines (omega arith))) all.0), each (suc k) more all.1)
 
-none_begins : (k : ℕ) (plan : List (List Line)) → EachClient BeginWith k plan []
-none_begins k [] = tt
-none_begins k (lines ∷ more) = ((0, omega arith, tt), none_begins (suc k) more)
-
--- no entry at all
-pub no_fronts : (plan : List (List Line)) → HaveFronts plan []
-no_fronts plan = record { each = none_begins 1 plan; others = tt }
-
 -- ---- where there are as many marks as lines
 
 -- a front that is as long is the whole list

@@ -1,10 +1,11 @@
 -- What a run's server leaves.
-use Rattle.std.proofs.Common.{◌≡◌, ◌⊎◌, ◌<◌, ◌++◌, ℕ, Bool, true, false, List, length, refl, sym, ap, ◌∙◌, subst, inl, inr, arith, None}
+use Rattle.std.proofs.Common.{◌≡◌, ◌⊎◌, ◌<◌, ◌++◌, [], ◌∷◌, ℕ, suc, Bool, true, false, List, length, refl, sym, ap, ◌∙◌, subst, inl, inr, arith}
+use Rattle.std.proofs.lemmas.Bool.{false≢true}
 use Rattle.std.proofs.lemmas.List.{length-map}
 use Rattle.std.specs.Global.{Vec}
 use Rattle.atomic_table.specs.Seated.{TableId}
 use Rattle.jfs_bits.specs.declared.descriptor.Moment.{Moment}
-use Rattle.jfs_disk.specs.Crash.{DiskState, last_of}
+use Rattle.jfs_disk.specs.Crash.{DiskState, Leaves, last_of, seen_of}
 use Rattle.jfs_disk.specs.Image.{Image, page_of}
 use Rattle.jfs_disk.specs.Moment.{IsResting}
 use Rattle.jfs_disk.specs.declared.disk.Disk.{Ghosts}
@@ -18,12 +19,18 @@ use Rattle.jfs_server.specs.declared.stopping.Ending.TheVariants.{Home, Left}
 use Rattle.jfs_server.specs.declared.stopping.Last.TheVariants.{Nothing, Syncpoint}
 use Rattle.jfs_server.specs.declared.stopping.Stopped.{Stopped}
 use Rattle.jfs_server.specs.shared.specs.Base.{start_of}
-use Rattle.jfs_server.specs.shared.specs.Left.{IsLeft}
-use Rattle.jfs_server.specs.shared.specs.Shared.{IfConsistent, IfKeepable, timed_in, lasting_in}
+use Rattle.jfs_server.specs.Served.{client_of}
+use Rattle.jfs_server.specs.shared.specs.Entries.{Recorded}
+use Rattle.jfs_server.specs.shared.specs.Left.{IsLeft, IsLeftUncalled}
+use Rattle.jfs_server.specs.shared.specs.Shared.{IfConsistent, IfKeepable, entries_in, timed_in, lasting_in}
 use Rattle.jfs_server.specs.shared.specs.Shared as shared
-use Rattle.jfs_server.specs.shared.specs.Start.{base_at}
+use Rattle.jfs_server.specs.shared.specs.Start.{IsJustMounted, base_at}
+use Rattle.jfs_server.specs.shared.specs.kept_history.specs.Crash.{IsRedoneToHistory}
 use Rattle.jfs_server.specs.shared.specs.kept_history.specs.Keepable.{IsKeepableImage}
+use Rattle.jfs_server.specs.shared.specs.kept_history.specs.Unmounted.{LeavesKeepable}
+use Rattle.jfs_server.specs.shared.proofs.Begun.{served as served_at_first}
 use Rattle.jfs_server.specs.shared.proofs.KeptServed.{timed_same}
+use Rattle.jfs_server.specs.shared.proofs.Uncalled.{uncalled_law}
 use Rattle.jfs_server.specs.shared.specs.legal.specs.History.{AreLegal, IsOver}
 use Rattle.jfs_server.specs.shared.specs.legal.specs.served.specs.halves.specs.Parts.{Parts}
 use Rattle.jfs_server.specs.shared.specs.legal.proofs.Over.{over_law}
@@ -31,16 +38,17 @@ use Rattle.jfs_server.specs.shared.specs.legal.specs.served.specs.mounted.specs.
 use Rattle.jfs_server.specs.shared.specs.legal.specs.served.specs.shown.specs.meaning.specs.Image.{IsConsistentImage, volume_of}
 use Rattle.jfs_server.specs.shared.specs.legal.specs.served.specs.Legal.{Timed}
 use Rattle.jfs_server.specs.shared.specs.legal.specs.served.specs.unmount.specs.Unmount.{IsAllHome}
-use Rattle.jfs_server.specs.turns.specs.Lists.{Base}
+use Rattle.jfs_server.specs.shared.specs.legal.specs.served.specs.volume_calls.specs.Together.{log_parts}
+use Rattle.jfs_server.specs.turns.specs.Lists.{Base, AreOfClients as OfClients}
 use Rattle.jfs_run.specs.Calls.{AreOfClients, any_failed}
 use Rattle.jfs_run.specs.Clients.{ServerPass, EachCame}
 use Rattle.jfs_run.specs.Ending.{last_for, unbegun}
 use Rattle.jfs_run.specs.Legal.{all_at, HasReplied}
 use Rattle.jfs_run.specs.Left.{IsLeftWith}
 use Rattle.jfs_run.specs.Mounted.{State, state, PartRose, Since}
-use Rattle.jfs_run.specs.Serving.{AreCalled, HaveRoom, IsHomeFor, IsUncalled, IsHandedOut, IsServed}
+use Rattle.jfs_run.specs.Serving.{AreCalled, AreFronts, EachMarked, HaveRoom, IsHomeFor, IsServed}
 use Rattle.jfs_run.specs.Tasks.{plan_of}
-use Rattle.jfs_run.specs.Telling.{marks_in}
+use Rattle.jfs_run.specs.Telling.{marks_in, AreAsMany}
 use Rattle.jfs_run.specs.declared.serving.Called.{Called}
 use Rattle.jfs_run.proofs.Marked.{AreAll, are_all}
 use Rattle.jfs_run.proofs.Passes.{EachFrom, from_places, at_place, last_place, IsFresh, IsSeat, fresh, each_kept, seats, fronts, few_came, few_ready}
@@ -73,6 +81,26 @@ is_to_be : (is_left : Bool) → unbegun is_left ≡ Left → is_left ≡ true
 is_to_be true e = refl
 is_to_be false e = absurd (cc (e))
 
+-- of each client's lines none was called
+abbrev empties : List (Vec Line) → List (List Line)
+empties [] = []
+empties (script ∷ scripts) = [] ∷ empties scripts
+
+empty_fronts : (scripts : List (Vec Line)) → AreFronts (empties scripts) (plan_of scripts)
+empty_fronts [] = tt
+empty_fronts (script ∷ scripts) = ((0, omega arith, refl), empty_fronts scripts)
+
+none_marked : (now : Moment) (failed : Bool) (durable k n : ℕ) (scripts : List (Vec Line)) (marks : List (Vec Bool)) → HaveRoom scripts marks → EachMarked now failed durable k n (empties scripts) (marks_in marks) []
+none_marked now failed durable k n [] [] room = tt
+none_marked now failed durable k n [] (ms ∷ more) room = absurd room
+none_marked now failed durable k n (script ∷ scripts) [] room = absurd room
+none_marked now failed durable k n (script ∷ scripts) (ms ∷ more) room = ((refl, room.0), none_marked now failed durable (suc k) n scripts more room.2)
+
+-- entries of these clients, as a list has them
+clients_are : (n : ℕ) (list : List Recorded) → OfClients client_of n list → AreOfClients n (entries_in list)
+clients_are n [] all = tt
+clients_are n (e ∷ es) all = (all.0, clients_are n es all.1)
+
 module _ {D : Type 0} (d : Ghosts D) (scripts : List (Vec Line)) (now : Moment) (image : Image) (s : Super) (m : Mounted D d) (marks : List (Vec Bool)) where
   abbrev first : State
   first = state d m.volume m.log
@@ -80,20 +108,67 @@ module _ {D : Type 0} (d : Ghosts D) (scripts : List (Vec Line)) (now : Moment) 
   abbrev base : Base
   base = base_at s image m.volume (d.page_count m.log.part) (d.fault_count m.log.part)
 
-  -- ---- nothing was called
+  -- ---- memory lacked for the clients: no call was made
 
-  uncalled_calm : (x : Called D d) → IsUncalled d x → any_failed x.history.items ≡ false
-  uncalled_calm x u = ap any_failed u.history
+  module _ (x : Called D d) (none : x.history.items ≡ []) (not_whole : x.is_whole ≡ false) (not_failed : x.failed ≡ false) (same : x.mounted ≡ m) (j : IsJustMounted d.tells d.tells_crashes s image m.volume (log_parts d m.log)) where
+    abbrev page : ℕ → List ℕ
+    page = page_of image
 
-  pub uncalled : (is_left : Bool) (x : Called D d) → IsUncalled d x → x.mounted ≡ m → x.ending ≡ unbegun is_left → m.volume.halted ≡ None → IsAllHome m.volume → HaveRoom scripts marks → IsServed d scripts now is_left image s first marks x
-  uncalled is_left x u same ended runs home room = record {
-    calls = inl u;
-    few = few_ready scripts marks room;
-    since = subst (λ (n : Mounted D d). Since first (state d n.volume n.log)) (sym same) (at_mount first runs);
-    calm = inl (uncalled_calm x u);
-    home = λ is. record { asked = not_left is_left (sym ended ∙ is); home = subst (λ (n : Mounted D d). IsAllHome n.volume) (sym same) home; runs = ap (λ (n : Mounted D d). n.volume.halted) same ∙ runs };
-    left_for = λ is. inl (is_to_be is_left (sym ended ∙ is));
-  }
+    no_entries : (durable : ℕ) → HaveRoom scripts marks → AreCalled now x.failed durable (plan_of scripts) (marks_in marks) []
+    no_entries durable room = record { fronts = empties scripts; are_fronts = empty_fronts scripts; each = none_marked now x.failed durable 1 1 scripts marks room; others = tt }
+
+    appended : m.volume.appended ≡ 0
+    appended = (j.mount.fresh false false (λ e. absurd (false≢true e)) (λ e. absurd (false≢true e))).appended
+
+    replied_none : d.tells → IsConsistentImage s page → HasReplied s page now [] m.volume
+    replied_none t consistent = record {
+      start = is.start;
+      holds = is.holds;
+      runs = is.runs;
+      over = over_law (volume_of s page).area s.logpxd.len is.start [] m.volume is.goes_on;
+    }
+      where
+        is : shared.IsServed s page false [] m.volume
+        is = served_at_first d.tells d.tells_crashes s image m.volume (log_parts d m.log) j t consistent
+
+    module _ (reads : d.tells_crashes → d.image m.log.part ≡ seen_of (last_of (d.past m.log.part))) where
+      at_first : d.tells → d.tells_crashes → IsKeepableImage s image → IsLeftUncalled s image m.volume (log_parts d m.log)
+      at_first t c checked = uncalled_law d.tells d.tells_crashes t c s image m.volume (log_parts d m.log) j (reads c) checked
+
+      left_none : d.tells → d.tells_crashes → IsKeepableImage s image → IsLeftWith s image now [] m.log.durable (last_of m.volume.past ++ last_of (d.past m.log.part))
+      left_none t c checked = record {
+        follows = record { start = is.start; runs = is.runs; tree = is.holds.tree; room = is.holds.room; legal = is.legal };
+        list = [];
+        entries_are = refl;
+        redone = subst (λ (n : ℕ). Leaves (λ left. IsRedoneToHistory s page is.start [] n left) (last_of m.volume.past ++ last_of (d.past m.log.part))) (sym (durable_none)) is.redone;
+      }
+        where
+          is : IsLeft s image [] 0 (last_of m.volume.past ++ last_of (d.past m.log.part))
+          is = (at_first t c checked).left
+
+          durable_none : m.log.durable ≡ 0
+          durable_none = (j.mount.log_fresh false false (λ e. absurd (false≢true e)) (λ e. absurd (false≢true e))).durable
+
+      pub uncalled : (is_left : Bool) → x.ending ≡ unbegun is_left → IsAllHome m.volume → HaveRoom scripts marks → IsServed d scripts now is_left image s first marks x
+      uncalled is_left ended home room = record {
+        calls = record {
+          list = [];
+          history = none;
+          appended = ap (λ (n : Mounted D d). n.volume.appended) same ∙ appended;
+          are = no_entries x.mounted.log.durable room;
+          whole = λ is. absurd (false≢true (sym not_whole ∙ is));
+          reached = λ is. absurd (false≢true (sym not_failed ∙ is));
+          replied = λ t consistent. subst {A = List Entry × Mounted D d} (λ z. HasReplied s page now z.0 z.1.volume) (λ i. (sym none i, sym same i)) (replied_none t consistent);
+          left = λ t c checked. subst {A = List Entry × Mounted D d} (λ z. IsLeftWith s image now z.0 z.1.log.durable (last_of z.1.volume.past ++ last_of (d.past z.1.log.part))) (λ i. (sym none i, sym same i)) (left_none t c checked);
+          again = λ t c checked. subst (λ (n : Mounted D d). LeavesKeepable s page n.volume) (sym same) (at_first t c checked).again;
+          rests = λ t c is checked. subst (λ (n : Mounted D d). IsResting (last_of n.volume.past)) (sym same) (at_first t c checked).rests;
+        };
+        few = few_ready scripts marks room;
+        since = subst (λ (n : Mounted D d). Since first (state d n.volume n.log)) (sym same) (at_mount first j.runs);
+        calm = inl (ap any_failed none);
+        home = λ is. record { asked = not_left is_left (sym ended ∙ is); home = subst (λ (n : Mounted D d). IsAllHome n.volume) (sym same) home; runs = ap (λ (n : Mounted D d). n.volume.halted) same ∙ j.runs };
+        left_for = λ is. inl (is_to_be is_left (sym ended ∙ is));
+      }
 
   -- ---- a server was stopped
 
@@ -139,9 +214,13 @@ module _ {D : Type 0} (d : Ghosts D) (scripts : List (Vec Line)) (now : Moment) 
     stopped_calm : (any_failed stopped.history.items ≡ false) ⊎ PartRose first (state d stopped.mounted.volume stopped.mounted.log)
     stopped_calm = ends.calm
 
+    -- each entry is of one of the scripts' clients
+    others : AreOfClients (length scripts) stopped.history.items
+    others = subst {A = ℕ × List Entry} (λ z. AreOfClients z.0 z.1) (λ i. ((back.1 ∙ started.many) i, sym st.history i)) (clients_are (length after) st.list st.clients)
+
     -- its list has the entries of a front of each client's lines
-    called : AreOfClients (length scripts) stopped.history.items → AreCalled now failed stopped.mounted.log.durable (plan_of scripts) (marks_in marks) st.list
-    called others =
+    called : AreCalled now failed stopped.mounted.log.durable (plan_of scripts) (marks_in marks) st.list
+    called =
         let f = fronts d now failed stopped.mounted.log.durable st.list table (length scripts) base 1 scripts passes after marks news came (from_places (λ _ q. GoesOn d st.list stopped.mounted.log.durable q) 1 after (λ i q at. st.passes_go_on i q at)) in
         record {
           fronts = f.0;
@@ -152,7 +231,7 @@ module _ {D : Type 0} (d : Ghosts D) (scripts : List (Vec Line)) (now : Moment) 
 
     -- ---- the replies
 
-    module _ (told : d.tells) (spelled : super_of (page_of image 8) ≡ s) (consistent : IsConsistentImage s (page_of image)) (others : AreOfClients (length scripts) stopped.history.items) where
+    module _ (told : d.tells) (spelled : super_of (page_of image 8) ≡ s) (consistent : IsConsistentImage s (page_of image)) where
       served : shared.IsServed s (page_of image) stopped.is_broken_off st.list stopped.mounted.volume
       served =
           let by_base = subst (λ (b : Base). IfConsistent b (λ t page. shared.IsServed t page stopped.is_broken_off st.list stopped.mounted.volume)) base_is (st.served told) in
@@ -160,8 +239,7 @@ module _ {D : Type 0} (d : Ghosts D) (scripts : List (Vec Line)) (now : Moment) 
 
       all : AreAll now failed stopped.mounted.log.durable 1 (marks_in marks) st.list
       all =
-          let c = called others in
-          are_all now failed stopped.mounted.log.durable 1 (length (plan_of scripts)) c.fronts (marks_in marks) st.list (omega (arith, many_marks now failed stopped.mounted.log.durable (plan_of scripts) (marks_in marks) st.list c)) c.others c.each
+          are_all now failed stopped.mounted.log.durable 1 (length (plan_of scripts)) called.fronts (marks_in marks) st.list (omega (arith, many_marks now failed stopped.mounted.log.durable (plan_of scripts) (marks_in marks) st.list called)) called.others called.each
 
       -- all were handed at this moment
       moments : timed_in st.list ≡ all_at now stopped.history.items
@@ -180,9 +258,9 @@ module _ {D : Type 0} (d : Ghosts D) (scripts : List (Vec Line)) (now : Moment) 
 
     -- ---- what a crash leaves
 
-    left_with : d.tells → d.tells_crashes → (spelled : super_of (page_of image 8) ≡ s) → AreOfClients (length scripts) stopped.history.items → IsKeepableImage s image
+    left_with : d.tells → d.tells_crashes → (spelled : super_of (page_of image 8) ≡ s) → IsKeepableImage s image
         → IsLeftWith s image now stopped.history.items stopped.mounted.log.durable (last_of stopped.mounted.volume.past ++ last_of (d.past stopped.mounted.log.part))
-    left_with t c spelled others checked = record {
+    left_with t c spelled checked = record {
       follows = record { start = is.start; runs = is.runs; tree = is.holds.tree; room = is.holds.room; legal = subst (AreLegal (volume_of s (page_of image)).area s.logpxd.len is.start) at_once is.legal };
       list = lasting_in st.list;
       entries_are = timed_same st.list ∙ at_once;
@@ -198,37 +276,35 @@ module _ {D : Type 0} (d : Ghosts D) (scripts : List (Vec Line)) (now : Moment) 
             subst (λ (t : Super). IsKeepableImage t image → IsLeft t image st.list stopped.mounted.log.durable state_now) spelled by_base checked
 
         at_once : timed_in st.list ≡ all_at now stopped.history.items
-        at_once = moments t spelled (checked.keepable.consistent) others
+        at_once = moments t spelled (checked.keepable.consistent)
 
     rests_with : d.tells → d.tells_crashes → (spelled : super_of (page_of image 8) ≡ s) → stopped.ending ≡ Home → IsKeepableImage s image → IsResting (last_of stopped.mounted.volume.past)
     rests_with t c spelled ended checked =
         let by_base = subst (λ (b : Base). IfKeepable b (λ t image. IsResting (last_of stopped.mounted.volume.past))) base_is (st.rests ended t c) in
         subst (λ (t : Super). IsKeepableImage t image → IsResting (last_of stopped.mounted.volume.past)) spelled by_base checked
 
+    again_with : d.tells → d.tells_crashes → (spelled : super_of (page_of image 8) ≡ s) → IsKeepableImage s image → LeavesKeepable s (page_of image) stopped.mounted.volume
+    again_with t c spelled checked =
+        let by_base = subst (λ (b : Base). IfKeepable b (λ t image. LeavesKeepable t (page_of image) stopped.mounted.volume)) base_is (st.again t c) in
+        subst (λ (t : Super). IsKeepableImage t image → LeavesKeepable t (page_of image) stopped.mounted.volume) spelled by_base checked
+
     -- ---- all of it
 
-    pub is_served : (x : Called D d) → x.mounted ≡ stopped.mounted → x.ending ≡ stopped.ending → (d.tells → super_of (page_of image 8) ≡ s) → IsUncalled d x ⊎ IsHandedOut d scripts failed marks stopped x → IsServed d scripts now is_left image s first marks x
-    is_served x same ended spelled (inl u) = record {
-      calls = inl u;
-      few = few_came d now failed scripts passes after marks came;
-      since = subst (λ (n : Mounted D d). Since first (state d n.volume n.log)) (sym same) stopped_since;
-      calm = inl (uncalled_calm x u);
-      home = λ is. subst (λ (n : Mounted D d). IsHomeFor is_left n.volume) (sym same) (stopped_home (sym ended ∙ is));
-      left_for = λ is. subst (λ (n : Mounted D d). (is_left ≡ true) ⊎ PartRose first (state d n.volume n.log)) (sym same) (stopped_left (sym ended ∙ is));
-    }
-    is_served x same ended spelled (inr h) =
+    pub is_served : (x : Called D d) → x.mounted ≡ stopped.mounted → x.ending ≡ stopped.ending → x.history ≡ stopped.history → x.failed ≡ failed → (x.is_whole ≡ true → AreAsMany scripts marks) → (d.tells → super_of (page_of image 8) ≡ s) → IsServed d scripts now is_left image s first marks x
+    is_served x same ended history failed_is whole spelled =
         subst (IsServed d scripts now is_left image s first marks) (sym x_is) record {
-          calls = inr (record {
+          calls = record {
             list = st.list;
             history = st.history;
             appended = st.all;
-            are = called others;
-            whole = h.whole;
+            are = called;
+            whole = whole;
             reached = stopped_reached;
-            replied = λ t consistent. replied t (spelled t) consistent others;
-            left = λ t c checked. left_with t c (spelled t) others checked;
+            replied = λ t consistent. replied t (spelled t) consistent;
+            left = λ t c checked. left_with t c (spelled t) checked;
+            again = λ t c checked. again_with t c (spelled t) checked;
             rests = λ t c is checked. rests_with t c (spelled t) is checked;
-          });
+          };
           few = few_came d now failed scripts passes after marks came;
           since = stopped_since;
           calm = stopped_calm;
@@ -236,8 +312,5 @@ module _ {D : Type 0} (d : Ghosts D) (scripts : List (Vec Line)) (now : Moment) 
           left_for = stopped_left;
         }
       where
-        others : AreOfClients (length scripts) stopped.history.items
-        others = subst (λ (v : Vec Entry). AreOfClients (length scripts) v.items) h.history h.others
-
         x_is : x ≡ record { mounted = stopped.mounted; history = stopped.history; is_whole = x.is_whole; is_broken_off = x.is_broken_off; failed = failed; ending = stopped.ending }
-        x_is = λ i. record { mounted = same i; history = h.history i; is_whole = x.is_whole; is_broken_off = x.is_broken_off; failed = h.failed_is i; ending = ended i }
+        x_is = λ i. record { mounted = same i; history = history i; is_whole = x.is_whole; is_broken_off = x.is_broken_off; failed = failed_is i; ending = ended i }

@@ -4,14 +4,15 @@ use Rattle.std.specs.List.{AllByRecursion}
 use Rattle.jfs_bits.specs.declared.descriptor.Moment.{Moment}
 use Rattle.jfs_disk.specs.Crash.{DiskState, Leaves}
 use Rattle.jfs_disk.specs.Image.{Image, page_of}
-use Rattle.jfs_disk.specs.Moment.{IsResting}
 use Rattle.jfs_super.specs.declared.fields.Super.{Super}
 use Rattle.jfs_plain.specs.declared.call.Entry.{Entry}
 use Rattle.jfs_server.specs.shared.specs.kept_history.specs.Crash.{IsRedoneToHistory}
-use Rattle.jfs_server.specs.shared.specs.kept_history.specs.Failed.{LeavesUnmounted}
+use Rattle.jfs_server.specs.shared.specs.kept_history.specs.Failed.{LeavesNeverMounted}
 use Rattle.jfs_server.specs.shared.specs.kept_history.specs.Kept.{Lasting, timed_in}
+use Rattle.jfs_server.specs.shared.specs.kept_history.specs.mounted_maps.specs.Keepable.{IsKeepable}
 use Rattle.jfs_run.specs.Calls.{Calls, NoCalls}
 use Rattle.jfs_run.specs.Legal.{FollowsTree, EndsOnTree, all_at}
+use Rattle.jfs_run.specs.Run.{StayBeside}
 use Rattle.jfs_run.specs.declared.run.RunEnd.{RunEnd}
 use Rattle.jfs_run.specs.declared.run.RunEnd.TheVariants as ends
 
@@ -23,12 +24,17 @@ pub record IsLeftWith (s : Super) (image : Image) (now : Moment) (es : List Entr
   pub entries_are : timed_in list ≡ all_at now es
   pub redone : Leaves (λ left. IsRedoneToHistory s (page_of image) follows.start list durable left) state
 
--- So it is of whatever a crash leaves of a disk in this state; or that is a clean and consistent image with the tree behind the last entry, where the volume wasn't to be left.
+-- A clean and consistent image with the tree behind the last entry; it is keepable again, so that the next run is kept as this one is.
+pub record IsUnmountedBehind (s : Super) (image : Image) (now : Moment) (es : List Entry) (left : Image) : Type 0 where
+  pub ends : EndsOnTree s (page_of image) now es left
+  pub keepable : IsKeepable s (page_of left)
+
+-- So it is of whatever a crash leaves of a disk in this state; or that is such an image, where the volume wasn't to be left.
 pub record IsEndedWith (s : Super) (image : Image) (now : Moment) (is_left : Bool) (es : List Entry) (durable : ℕ) (state : DiskState) : Type 0 where
   pub follows : FollowsTree s (page_of image) now es
   pub list : List Lasting
   pub entries_are : timed_in list ≡ all_at now es
-  pub left : Leaves (λ left. IsRedoneToHistory s (page_of image) follows.start list durable left ⊎ ((is_left ≡ false) × EndsOnTree s (page_of image) now es left)) state
+  pub left : Leaves (λ left. IsRedoneToHistory s (page_of image) follows.start list durable left ⊎ ((is_left ≡ false) × IsUnmountedBehind s image now es left)) state
 
 -- all entries that were told durable are among the first ones
 pub record IsLeftRun (s : Super) (image : Image) (now : Moment) (is_left : Bool) (c : Calls) (state : DiskState) : Type 0 where
@@ -36,13 +42,14 @@ pub record IsLeftRun (s : Super) (image : Image) (now : Moment) (is_left : Bool)
   pub told_are : AllByRecursion (λ number. number ≤ durable) c.told
   pub ended : IsEndedWith s image now is_left c.history durable state
 
--- So where it was done; and where a call on the disk failed or memory ran out, unless the history is empty. Where it is, and a call on the disk failed, the volume wasn't mounted, and this is left.
-abbrev pub LeavesRun : (unmounted : Type 0) → Super → Image → Moment → Bool → Calls → DiskState → RunEnd → Type 0
-LeavesRun unmounted s image now is_left c state ends.Done = IsLeftRun s image now is_left c state
-LeavesRun unmounted s image now is_left c state ends.Disk = (NoCalls c × unmounted) ⊎ IsLeftRun s image now is_left c state
-LeavesRun unmounted s image now is_left c state ends.Memory = NoCalls c ⊎ IsLeftRun s image now is_left c state
-LeavesRun unmounted s image now is_left c state (ends.BadImage bad) = Unit {0}
+-- No volume was mounted: all pages but page 8 and the log's are as they were. And where this premise holds, as that nothing was pending before, a crash leaves the image's tree, or a disk that is redone to it.
+pub record IsLeftNeverMounted (s : Super) (image new : Image) (premise : Type 0) (state : DiskState) : Type 0 where
+  pub pages : StayBeside s image new
+  pub left : premise → Leaves (LeavesNeverMounted s image) state
 
--- Where nothing was pending before, a crash leaves the image's tree then, or a disk that is redone to it.
-abbrev pub IsLeftUnmounted : Super → Image → DiskState → DiskState → Type 0
-IsLeftUnmounted s image before state = IsResting before → Leaves (LeavesUnmounted s image) state
+-- So it is of a run that is done. One that was stopped may have called nothing; this may be left then instead.
+abbrev pub LeavesRun : (never_mounted : Type 0) → Super → Image → Moment → Bool → Calls → DiskState → RunEnd → Type 0
+LeavesRun never_mounted s image now is_left c state ends.Done = IsLeftRun s image now is_left c state
+LeavesRun never_mounted s image now is_left c state ends.Disk = (NoCalls c × never_mounted) ⊎ IsLeftRun s image now is_left c state
+LeavesRun never_mounted s image now is_left c state ends.Memory = (NoCalls c × never_mounted) ⊎ IsLeftRun s image now is_left c state
+LeavesRun never_mounted s image now is_left c state (ends.BadImage bad) = NoCalls c × never_mounted

@@ -12,6 +12,7 @@ use Rattle.jfs_plain.specs.declared.call.Line.{Line}
 use Rattle.jfs_server.specs.shared.specs.Entries.{Recorded}
 use Rattle.jfs_server.specs.shared.specs.Shared.{entries_in}
 use Rattle.jfs_server.specs.shared.specs.kept_history.specs.Keepable.{IsKeepableImage}
+use Rattle.jfs_server.specs.shared.specs.kept_history.specs.Unmounted.{LeavesKeepable}
 use Rattle.jfs_server.specs.shared.specs.legal.specs.served.specs.shown.specs.meaning.specs.Image.{IsConsistentImage}
 use Rattle.jfs_server.specs.shared.specs.legal.specs.served.specs.halves.specs.Parts.{Parts}
 use Rattle.jfs_server.specs.shared.specs.legal.specs.served.specs.unmount.specs.Unmount.{IsAllHome}
@@ -22,7 +23,6 @@ use Rattle.jfs_run.specs.Mounted.{State, state, PartRose, Since}
 use Rattle.jfs_run.specs.Tasks.{plan_of, lines_in}
 use Rattle.jfs_run.specs.Telling.{marks_in, marks_left, AreAsMany}
 use Rattle.jfs_server.specs.declared.stopping.Ending.TheVariants.{Home, Left}
-use Rattle.jfs_server.specs.declared.stopping.Stopped.{Stopped}
 use Rattle.jfs_run.specs.declared.serving.Called.{Called}
 
 -- ---- the entries of a list, with their marks: whether a client's entry couldn't be made durable, and how many entries are durable
@@ -76,21 +76,6 @@ pub record IsHomeFor (is_left : Bool) (p : Parts) : Type 0 where
   pub runs : p.halted ≡ None
 
 module _ {D : Type 0} (d : Ghosts D) where
-  -- nothing was called
-  pub record IsUncalled (x : Called D d) : Type 0 where
-    pub history : x.history.items ≡ []
-    pub is_whole : x.is_whole ≡ false
-    pub is_broken_off : x.is_broken_off ≡ true
-    pub failed : x.failed ≡ false
-
-  -- It is what the server left, whose entries are all of these clients.
-  pub record IsHandedOut (scripts : List (Vec Line)) (failed : Bool) (marks : List (Vec Bool)) (stopped : Stopped D d) (x : Called D d) : Type 0 where
-    pub history : x.history ≡ stopped.history
-    pub others : AreOfClients (length scripts) x.history.items
-    pub whole : x.is_whole ≡ true → AreAsMany scripts marks
-    pub is_broken_off : x.is_broken_off ≡ stopped.is_broken_off
-    pub failed_is : x.failed ≡ failed
-
   -- The history is that of a list which the clients' calls made, of a volume that was mounted from this image and had this state.
   pub record IsCalled (scripts : List (Vec Line)) (now : Moment) (image : Image) (s : Super) (old : State) (marks : List (Vec Bool)) (x : Called D d) : Type 0 where
     pub list : List Recorded
@@ -103,12 +88,14 @@ module _ {D : Type 0} (d : Ghosts D) where
     pub replied : d.tells → IsConsistentImage s (page_of image) → HasReplied s (page_of image) now x.history.items x.mounted.volume
     pub left : d.tells → d.tells_crashes → IsKeepableImage s image
         → IsLeftWith s image now x.history.items x.mounted.log.durable (last_of x.mounted.volume.past ++ last_of (d.past x.mounted.log.part))
+    -- an image that the volume leaves when it is unmounted is keepable again
+    pub again : d.tells → d.tells_crashes → IsKeepableImage s image → LeavesKeepable s (page_of image) x.mounted.volume
     -- where all pages are home, none of the volume's part is pending
     pub rests : d.tells → d.tells_crashes → x.ending ≡ Home → IsKeepableImage s image → IsResting (last_of x.mounted.volume.past)
 
-  -- One or the other, with no more marks than lines; and unless a call on the disk failed, none of them was refused for a fault.
+  -- Its calls are such, and there are no more marks than lines; unless a call on the disk failed, no call was refused for a fault.
   pub record IsServed (scripts : List (Vec Line)) (now : Moment) (is_left : Bool) (image : Image) (s : Super) (old : State) (marks : List (Vec Bool)) (x : Called D d) : Type 0 where
-    pub calls : IsUncalled x ⊎ IsCalled scripts now image s old marks x
+    pub calls : IsCalled scripts now image s old marks x
     pub few : (length marks ≡ length scripts) × (marks_left (marks_in marks) ≤ lines_in (plan_of scripts))
     pub since : Since old (state d x.mounted.volume x.mounted.log)
     pub calm : (any_failed x.history.items ≡ false) ⊎ PartRose old (state d x.mounted.volume x.mounted.log)

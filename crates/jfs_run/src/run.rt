@@ -1,18 +1,20 @@
 //! A run on the volume of a disk.
 
-ghost use Rattle.std.specs.Prelude.{◌≡◌, ◌≤◌, ◌<◌, ◌+◌, ◌-◌, ◌^◌, true, [], length, vec_capacity, IfOk, IfErr};
+ghost use Rattle.std.specs.Prelude.{◌≡◌, ◌≤◌, ◌<◌, ◌+◌, [], vec_capacity, IfOk};
 ghost use Rattle.jfs_disk.specs.Crash.{last_of, seen_of};
 ghost use Rattle.jfs_disk.specs.Image.{page_of};
+ghost use Rattle.jfs_disk.specs.Moment.{IsResting};
 ghost use Rattle.jfs_super.specs.Rules.{IsAccepted};
 ghost use Rattle.jfs_super.specs.Super.{super_of, FitsSuper};
 ghost use Rattle.jfs_super.specs.declared.fields.TheConstants.VolumeState.{CLEAN};
 ghost use Rattle.jfs_script.specs.History.{IsRisingFrom};
 ghost use Rattle.jfs_server.specs.shared.specs.Start.{IsJustMounted};
 ghost use Rattle.jfs_server.specs.shared.specs.kept_history.specs.Keepable.{IsKeepableImage};
+ghost use Rattle.jfs_server.specs.shared.specs.kept_history.specs.mounted_maps.specs.Keepable.{IsKeepable};
 ghost use Rattle.jfs_server.specs.shared.specs.legal.specs.served.specs.mounted.specs.declared.mounted.MountError.{MountError};
 ghost use Rattle.jfs_server.specs.shared.specs.legal.specs.served.specs.volume_calls.specs.Together.{log_parts};
 ghost use Rattle.jfs_mount.specs.meaning.specs.Image.{IsConsistentImage};
-ghost use Rattle.jfs_run.specs.Left.{LeavesRun, IsLeftUnmounted};
+ghost use Rattle.jfs_run.specs.Left.{LeavesRun, IsLeftNeverMounted};
 ghost use Rattle.jfs_run.specs.Legal.{IsLegalRun, LeavesImage, IfUnmounted};
 ghost use Rattle.jfs_run.specs.Run.{RunIs, seen};
 ghost use Rattle.jfs_run.specs.Serving.{HaveRoom};
@@ -91,8 +93,10 @@ pub fn run_lines<D: Disk + Send, G: Gate + Sync, R: Threads + Wait + Sync>(
     ensures legal { D.tells → IsConsistentImage s.now (page_of (D.image disk)) → IsLegalRun s.now (page_of (D.image disk)) now result.history.items }
     // What such a run leaves where it is done, and the volume wasn't to be left: an image of the tree behind the last reply.
     ensures leaves { D.tells → IfUnmounted result.end is_left (LeavesImage s.now (D.image disk) now result.history.items (D.image result.disk)) }
-    // What a crash leaves of the disk, however the run ended, unless memory ran out and nothing was called. Redo makes of it what the first entries leave, all told ones among them; or it is the image of a volume that was unmounted. Where the mount failed, and nothing was pending before, it has the image's tree, or is redone to that.
-    ensures left { D.tells → D.tells_crashes → IsKeepableImage s.now (D.image disk) → LeavesRun (IsLeftUnmounted s.now (D.image disk) (last_of (D.past disk)) (last_of (D.past result.disk))) s.now (D.image disk) now is_left (record { history = result.history.items; told = result.told.items }) (last_of (D.past result.disk)) result.end }
+    // It is keepable again, so that the next run is kept as this one is.
+    ensures again { D.tells → D.tells_crashes → IsKeepableImage s.now (D.image disk) → IfUnmounted result.end is_left (IsKeepable s.now (page_of (D.image result.disk))) }
+    // What a crash leaves of the disk, however the run ended. Redo makes of it what the first entries leave, all told ones among them; or it is the image of a volume that was unmounted. A run that was stopped may have called nothing instead, and then it has the image's tree, or is redone to that, if nothing was pending before.
+    ensures left { D.tells → D.tells_crashes → IsKeepableImage s.now (D.image disk) → LeavesRun (IsLeftNeverMounted s.now (D.image disk) (D.image result.disk) (IsResting (last_of (D.past disk))) (last_of (D.past result.disk))) s.now (D.image disk) now is_left (record { history = result.history.items; told = result.told.items }) (last_of (D.past result.disk)) result.end }
     // so that the text of a history may be written
     ensures rising { IsRisingFrom 1 result.told.items }
     ensures pages { D.page_count result.disk ≡ D.page_count disk }
@@ -123,8 +127,10 @@ fn run_from<I: MountedFrom, D: Disk + Send, G: Gate + Sync, R: Threads + Wait + 
     ensures legal { D.tells → IsConsistentImage s.now (page_of (D.image disk)) → IsLegalRun s.now (page_of (D.image disk)) now result.history.items }
     // What such a run leaves where it is done, and the volume wasn't to be left: an image of the tree behind the last reply.
     ensures leaves { D.tells → IfUnmounted result.end is_left (LeavesImage s.now (D.image disk) now result.history.items (D.image result.disk)) }
-    // What a crash leaves of the disk, however the run ended, unless memory ran out and nothing was called. Redo makes of it what the first entries leave, all told ones among them; or it is the image of a volume that was unmounted. Where the mount failed, and nothing was pending before, it has the image's tree, or is redone to that.
-    ensures left { D.tells → D.tells_crashes → IsKeepableImage s.now (D.image disk) → LeavesRun (IsLeftUnmounted s.now (D.image disk) (last_of (D.past disk)) (last_of (D.past result.disk))) s.now (D.image disk) now is_left (record { history = result.history.items; told = result.told.items }) (last_of (D.past result.disk)) result.end }
+    // It is keepable again, so that the next run is kept as this one is.
+    ensures again { D.tells → D.tells_crashes → IsKeepableImage s.now (D.image disk) → IfUnmounted result.end is_left (IsKeepable s.now (page_of (D.image result.disk))) }
+    // What a crash leaves of the disk, however the run ended. Redo makes of it what the first entries leave, all told ones among them; or it is the image of a volume that was unmounted. A run that was stopped may have called nothing instead, and then it has the image's tree, or is redone to that, if nothing was pending before.
+    ensures left { D.tells → D.tells_crashes → IsKeepableImage s.now (D.image disk) → LeavesRun (IsLeftNeverMounted s.now (D.image disk) (D.image result.disk) (IsResting (last_of (D.past disk))) (last_of (D.past result.disk))) s.now (D.image disk) now is_left (record { history = result.history.items; told = result.told.items }) (last_of (D.past result.disk)) result.end }
     // so that the text of a history may be written
     ensures rising { IsRisingFrom 1 result.told.items }
     ensures pages { D.page_count result.disk ≡ D.page_count disk }
@@ -241,6 +247,7 @@ fn run_mounted<I: MountedFrom, D: Disk + Send, G: Gate + Sync, R: Threads + Wait
     ensures ran { RunSince D.tells D.tells_crashes taken.superblock.0 (plan_of scripts.now) is_left before (seen D.Disk result.disk) (record { history = result.history.items; told = result.told.items }) result.end }
     ensures legal { D.tells → IsConsistentImage I.block (page_of I.image) → IsLegalRun I.block (page_of I.image) now result.history.items }
     ensures leaves { D.tells → super_of taken.superblock.0 ≡ record I.block { state = CLEAN } → IfUnmounted result.end is_left (LeavesImage I.block I.image now result.history.items (D.image result.disk)) }
+    ensures again { D.tells → D.tells_crashes → IsKeepableImage I.block I.image → super_of taken.superblock.0 ≡ record I.block { state = CLEAN } → IfUnmounted result.end is_left (IsKeepable I.block (page_of (D.image result.disk))) }
     ensures left { D.tells → D.tells_crashes → IsKeepableImage I.block I.image → super_of taken.superblock.0 ≡ record I.block { state = CLEAN } → LeavesRun ⊥ I.block I.image now is_left (record { history = result.history.items; told = result.told.items }) (last_of (D.past result.disk)) result.end }
     ensures rising { IsRisingFrom 1 result.told.items }
     ensures pages { D.page_count result.disk ≡ m.volume.count + D.page_count m.log.part }

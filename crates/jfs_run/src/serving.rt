@@ -1,15 +1,16 @@
 //! The calls of a run, by a server of the mounted volume.
 
-ghost use Rattle.std.specs.Prelude.{◌≡◌, ◌⊎◌, ◌<◌, ◌+◌, ◌^◌};
+ghost use Rattle.std.specs.Prelude.{◌≡◌, ◌<◌, ◌+◌, ◌^◌, [], false};
+ghost use Rattle.jfs_disk.specs.Crash.{last_of, seen_of};
 ghost use Rattle.jfs_server.specs.shared.specs.Start.{IsJustMounted};
 ghost use Rattle.jfs_server.specs.shared.specs.legal.specs.served.specs.volume_calls.specs.Together.{log_parts};
 ghost use Rattle.jfs_run.specs.Ending.{last_for, unbegun};
 ghost use Rattle.jfs_run.specs.Mounted.{state};
-ghost use Rattle.jfs_run.specs.Serving.{HaveRoom, IsUncalled, IsHandedOut, IsServed};
+ghost use Rattle.jfs_run.specs.Serving.{HaveRoom, IsServed};
 ghost use Rattle.jfs_run.specs.Tasks.{plan_of, IsPlan};
 
 use crate::clients::{Back, do_scripts};
-use crate::telling::{are_of_clients, are_whole};
+use crate::telling::are_whole;
 use jfs_bits::Moment;
 use jfs_disk::Disk;
 use jfs_io::Gate;
@@ -62,13 +63,20 @@ pub fn serve<I: MountedFrom, D: Disk + Send, G: Gate + Sync, R: Threads + Wait +
             let Back { passes, failed } = do_scripts(
                 rt, &server, gate, now, passes, marks, room, scripts,
             );
-            handed_out(
-                alloc,
-                server.stop(passes, last_for(is_left, failed)),
-                marks.as_slice(),
-                scripts,
+            let Stopped {
+                mounted,
+                history,
+                is_broken_off,
+                ending,
+            } = server.stop(passes, last_for(is_left, failed));
+            Called {
+                mounted,
+                history,
+                is_whole: are_whole(scripts, marks.as_slice()),
+                is_broken_off,
                 failed,
-            )
+                ending,
+            }
         }
         Err(m) => {
             room.destroy_empty();
@@ -99,9 +107,12 @@ fn unbegun(is_left: bool) -> Ending
 
 /// A volume on which nothing was called, with what became of its pages.
 fn uncalled<D: Disk>(alloc: Global, mounted: Mounted<D>, ending: Ending) -> Called<D>
-    ensures uncalled { IsUncalled D.Disk result }
+    ensures history { result.history.items ≡ [] }
+    ensures whole { result.is_whole ≡ false }
+    ensures failed { result.failed ≡ false }
     ensures same { result.mounted ≡ mounted }
     ensures ending { result.ending ≡ ending }
+    ensures reads { D.tells_crashes → D.image result.mounted.log.part ≡ seen_of (last_of (D.past result.mounted.log.part)) }
 {
     Called {
         mounted,
@@ -109,37 +120,6 @@ fn uncalled<D: Disk>(alloc: Global, mounted: Mounted<D>, ending: Ending) -> Call
         is_whole: false,
         is_broken_off: true,
         failed: false,
-        ending,
-    }
-}
-
-/// What a server leaves whose clients did the lines of these scripts and came back with these marks. Each entry is one of these clients; the turns have that too, but no clause says it, so it is looked at: a history with another entry is none of these scripts.
-fn handed_out<D: Disk>(
-    alloc: Global,
-    stopped: Stopped<D>,
-    marks: &[Vec<bool>],
-    scripts: &[Vec<Line>],
-    failed: bool,
-) -> Called<D>
-    ensures same { result.mounted ≡ stopped.mounted }
-    ensures ending { result.ending ≡ stopped.ending }
-    ensures handed_out { IsUncalled D.Disk result ⊎ IsHandedOut D.Disk scripts.now failed marks.now stopped result }
-{
-    let Stopped {
-        mounted,
-        history,
-        is_broken_off,
-        ending,
-    } = stopped;
-    if !are_of_clients(history.as_slice(), scripts.len()) {
-        return uncalled(alloc, mounted, ending);
-    }
-    Called {
-        mounted,
-        history,
-        is_whole: are_whole(scripts, marks),
-        is_broken_off,
-        failed,
         ending,
     }
 }

@@ -1,25 +1,12 @@
 //! Which entries are told durable, and whether each line has its own.
 
-ghost use Rattle.std.specs.Prelude.{◌≡◌, ◌≤◌, ◌+◌, ◌++◌, ◌&&◌, nat_le, [], true, length, vec_len, vec_capacity};
-ghost use Rattle.jfs_run.specs.Calls.{AreOfClients};
+ghost use Rattle.std.specs.Prelude.{◌≡◌, ◌≤◌, ◌+◌, ◌++◌, ◌&&◌, nat_le, true, length, vec_len, vec_capacity};
 ghost use Rattle.jfs_run.specs.Telling.{mark_of, left_by, marks_of, told_from, marks_in, left_at, marks_left, AreAsMany};
 
 use jfs_plain::{Entry, Line};
 
 /// The greatest number of clients.
 const MOST_CLIENTS: usize = 16;
-
-/// Whether each entry is one of so many clients, from 1 on.
-pub fn are_of_clients(history: &[Entry], clients: usize) -> bool
-    ensures { result ≡ true → AreOfClients clients history.now }
-{
-    for entry in history {
-        if entry.client == 0 || entry.client as usize > clients {
-            return false;
-        }
-    }
-    true
-}
 
 /// Whether each script's client has as many entries, each with its mark, as the script has lines.
 pub fn are_whole(scripts: &[Vec<Line>], marks: &[Vec<bool>]) -> bool

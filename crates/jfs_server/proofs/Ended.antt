@@ -23,6 +23,8 @@ use Rattle.jfs_legal.specs.served.specs.halves.specs.Parts.{Parts}
 use Rattle.jfs_legal.specs.served.specs.shown.specs.meaning.specs.Image.{volume_of}
 use Rattle.jfs_volume_calls.proofs.Kept.{group_settles, group_pages}
 use Rattle.jfs_legal.specs.served.specs.unmount.specs.Unmount.{IsAllHome}
+use Rattle.jfs_shared.specs.kept_history.specs.Unmounted.{LeavesKeepable}
+use Rattle.jfs_shared.specs.kept_history.proofs.Unmounts.{unmounted_again_law}
 use Rattle.jfs_shared.specs.Base.{MountStart, start_of, image_of}
 use Rattle.jfs_shared.specs.Both as shared
 use Rattle.jfs_shared.specs.Entries.{Recorded}
@@ -33,7 +35,7 @@ use Rattle.jfs_shared.specs.declared.shared.SharedVolume.{SharedVolume}
 use Rattle.jfs_shared.specs.Settled.{RestsBehind}
 use Rattle.jfs_shared.proofs.Left.{left_is}
 use Rattle.jfs_shared.proofs.Served.{served_settled}
-use Rattle.jfs_turns.specs.Lists.{Base, HasOwn}
+use Rattle.jfs_turns.specs.Lists.{Base, HasOwn, AreOfClients}
 use Rattle.jfs_turns.specs.Passes.{End, AtEnd}
 use Rattle.jfs_turns.specs.declared.turns.Pass.{Pass}
 use Rattle.jfs_server.specs.Served.{standing, log_standing, client_of}
@@ -67,6 +69,7 @@ pub record AllGoOn {D : Type 0} (d : Ghosts D) (ps : List (Pass (ServedVolume D)
   pub durable_within : n.durable ≤ length n.list
   pub own : (i : ℕ) (p : Pass (ServedVolume D) (SharedLog D d) Recorded) → get_elem? ps i ≡ some p → HasOwn client_of p.client p.seat.me.0.list n.list × (p.seat.me.0.durable ≤ n.durable)
   pub base_is : (i : ℕ) (p : Pass (ServedVolume D) (SharedLog D d) Recorded) → get_elem? ps i ≡ some p → suc i ≡ length ps → p.seat.me.0.base ≡ n.base
+  pub clients : AreOfClients client_of (length ps) n.list
 
 module _ {D : Type 0} (d : Ghosts D) (ps : List (Pass (ServedVolume D) (SharedLog D d) Recorded)) (v : ServedVolume D) (y : SharedLog D d) (at_end : AtEnd client_of (standing d) (log_standing d) ps v y) where
   abbrev end : End Recorded
@@ -89,6 +92,7 @@ module _ {D : Type 0} (d : Ghosts D) (ps : List (Pass (ServedVolume D) (SharedLo
     durable_within = omega (arith, at_end.3.3, at_end.3.5);
     own = λ i p is. (let g = at_end.4 i p is in (g.0, g.1));
     base_is = λ i p is last. (at_end.5 i p is last).0;
+    clients = at_end.6;
   }
 
   -- and behind a syncpoint, where there was one
@@ -102,6 +106,7 @@ module _ {D : Type 0} (d : Ghosts D) (ps : List (Pass (ServedVolume D) (SharedLo
           durable_within = s.5;
           own = λ i p is. (let g = go_on.own i p is in (subst (λ (list : List Recorded). HasOwn client_of p.client p.seat.me.0.list list) (sym s.3) g.0, omega (arith, g.1, s.4)));
           base_is = λ i p is last. go_on.base_is i p is last ∙ sym s.2;
+          clients = subst (λ (list : List Recorded). AreOfClients client_of (length ps) list) (sym s.3) go_on.clients;
         },
       )
 
@@ -272,11 +277,17 @@ module _ {D : Type 0} (d : Ghosts D) (ps : List (Pass (ServedVolume D) (SharedLo
       durable_within = omega (arith, durable_is, passes.durable_within);
       passes_go_on = λ i p is. let g = passes.own i p is in record { own = g.0; reached = omega (arith, durable_is, g.1) };
       base_is = passes.base_is;
+      clients = passes.clients;
       ends = ends;
       served = λ t consistent. subst (λ (b : Bool). IsServed (super_of (page_of (image_of end.base) 8)) (page_of (image_of end.base)) b end.list x.mounted.volume) (sym broken_off) (served_now x.mounted.volume halted h t consistent);
       left = λ t c checked.
           subst {A = ℕ × DiskState} (λ z. IsLeft s (image_of end.base) end.list z.0 z.1) (λ i. (sym durable_is i, last_of (sym (ap (λ (p : Parts). p.past) h.is) i) ++ last_of (d.past (sym log i).part)))
           (left_is d _ v y both reads t c checked);
+      again = λ t c checked. subst (λ (p : Parts). LeavesKeepable s page p) (sym h.is) (λ left volume has whole.
+          let home = volume.home in
+          unmounted_again_law s page _ _ _ old (stands.kept t c checked).since left
+          (record { files = volume.files; consistent = volume.consistent; home = record { clean = home.clean; block_map = home.block_map; inode_map = home.inode_map } })
+          (record { pages = has.pages; disk = has.disk }) whole);
       home = λ is. (
           let home = ended.home is in
           record {

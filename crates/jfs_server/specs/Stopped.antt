@@ -4,6 +4,7 @@ use mathlib.Core.Option.{some}
 use lib.ListN.{get_elem?}
 use Rattle.jfs_bits.specs.Count.{Rose}
 use Rattle.jfs_disk.specs.Crash.{last_of}
+use Rattle.jfs_disk.specs.Image.{page_of}
 use Rattle.jfs_disk.specs.Moment.{IsResting}
 use Rattle.jfs_disk.specs.declared.disk.Disk.{Ghosts}
 use Rattle.jfs_disk.specs.declared.disk.Fault.{Fault}
@@ -13,6 +14,7 @@ use Rattle.jfs_groups.specs.declared.log.SharedLog.{SharedLog}
 use Rattle.jfs_legal.specs.served.specs.crash_core.specs.Step.{halted_by}
 use Rattle.jfs_legal.specs.served.specs.halves.specs.Parts.{Parts}
 use Rattle.jfs_legal.specs.served.specs.unmount.specs.Unmount.{IsAllHome}
+use Rattle.jfs_shared.specs.kept_history.specs.Unmounted.{LeavesKeepable}
 use Rattle.jfs_shared.specs.Base.{MountStart, start_of}
 use Rattle.jfs_shared.specs.Both.{Seen, AreOf}
 use Rattle.jfs_shared.specs.Entries.{Recorded}
@@ -21,7 +23,7 @@ use Rattle.jfs_shared.specs.Left.{IsLeft}
 use Rattle.jfs_shared.specs.Shared.{IsServed, IfConsistent, IfKeepable, entries_in}
 use Rattle.jfs_shared.specs.Shared as shared
 use Rattle.jfs_shared.specs.declared.shared.SharedVolume.{SharedVolume}
-use Rattle.jfs_turns.specs.Lists.{Base, HasOwn}
+use Rattle.jfs_turns.specs.Lists.{Base, HasOwn, AreOfClients}
 use Rattle.jfs_turns.specs.declared.turns.Pass.{Pass}
 use Rattle.jfs_server.specs.Served.{client_of}
 use Rattle.jfs_server.specs.declared.served.ServedVolume.{ServedVolume}
@@ -69,6 +71,8 @@ pub record IsStopped {D : Type 0} (d : Ghosts D) (last : Last) (passes : List (P
   pub all : x.mounted.volume.appended ≡ length list
   pub none : x.mounted.volume.entries ≡ []
   pub durable_within : x.mounted.log.durable ≤ length list
+  -- each entry is one of a pass's client
+  pub clients : AreOfClients client_of (length passes) list
   pub passes_go_on : (i : ℕ) (p : Pass (ServedVolume D) (SharedLog D d) Recorded) → get_elem? passes i ≡ some p → GoesOn d list x.mounted.log.durable p
   -- that of the last pass
   pub base_is : (i : ℕ) (p : Pass (ServedVolume D) (SharedLog D d) Recorded) → get_elem? passes i ≡ some p → suc i ≡ length passes → p.seat.me.0.base ≡ base
@@ -76,6 +80,8 @@ pub record IsStopped {D : Type 0} (d : Ghosts D) (last : Last) (passes : List (P
   pub served : d.tells → IfConsistent base (λ s page. IsServed s page x.is_broken_off list x.mounted.volume)
   -- whatever a crash leaves of both parts of the disk is redone to that history, with all durable entries
   pub left : d.tells → d.tells_crashes → IfKeepable base (λ s image. IsLeft s image list x.mounted.log.durable (last_of x.mounted.volume.past ++ last_of (d.past x.mounted.log.part)))
+  -- and where all pages are home, an image that the volume leaves when it is unmounted is keepable again
+  pub again : d.tells → d.tells_crashes → IfKeepable base (λ s image. LeavesKeepable s (page_of image) x.mounted.volume)
   -- what was done last: a syncpoint, behind which nothing of the volume's part is pending, unless a count rose
   pub home : x.ending ≡ Home → IsAtHome last x.mounted.volume
   pub rests : x.ending ≡ Home → d.tells → d.tells_crashes → IfKeepable base (λ s image. IsResting (last_of x.mounted.volume.past))

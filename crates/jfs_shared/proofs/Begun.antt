@@ -63,7 +63,7 @@ module _ (tells crashes : Type 0) (s : Super) (image : Image) (volume : Parts) (
   layout : IsLayout (geometry_of s)
   layout = accepted_layout s m.pages m.accepted
 
-  within : blocks_of s ≤ volume.blocks
+  pub within : blocks_of s ≤ volume.blocks
   within = let behind = layout.behind in omega (arith, behind, m.blocks)
 
   some : 2 ≤ ring
@@ -75,7 +75,7 @@ module _ (tells crashes : Type 0) (s : Super) (image : Image) (volume : Parts) (
   stands : StandsFor false false volume both.volume
   stands = m.mount.fresh false false (none_told tells) (none_told crashes)
 
-  log_stands : halves.LogStandsFor false false log both
+  pub log_stands : halves.LogStandsFor false false log both
   log_stands = m.mount.log_fresh false false (none_told tells) (none_told crashes)
 
   text : HasText ring [] 0 0 volume.text
@@ -87,12 +87,12 @@ module _ (tells crashes : Type 0) (s : Super) (image : Image) (volume : Parts) (
     last = stands.text.last;
   }
 
-  abbrev served : tells → IsConsistentImage s (page_of image) → IsServed s (page_of image) false [] volume
+  abbrev pub served : tells → IsConsistentImage s (page_of image) → IsServed s (page_of image) false [] volume
   served t consistent =
       let held = laws.mounted s image volume log (told_mount tells crashes t s image volume log m.mount) within consistent in
       record { start = volume; holds = held; runs = m.runs; goes_on = begin_law (volume_of s (page_of image)).area s.logpxd.len volume held.serves }
 
-  kept : tells → crashes → IsKeepableImage s image → IsKeptServed s image false [] [] volume
+  pub kept : tells → crashes → IsKeepableImage s image → IsKeptServed s image false [] [] volume
   kept t c checked = record {
     served = served t (checked.keepable.consistent);
     since = kept_begins tells crashes t c s image volume log m.mount checked;
@@ -121,11 +121,11 @@ module _ (tells crashes : Type 0) (s : Super) (image : Image) (volume : Parts) (
 
   -- ---- the log
 
-  sized : length (text_of first_record) ≡ 36
+  pub sized : length (text_of first_record) ≡ 36
   sized = ap (λ (b : List ℕ). length b) (sym (append-nil (text_of first_record))) ∙ length-items ring (4080 * (ring - 1)) (point 0 ∷ [])
 
   -- what mounts say of a log's text leaves its front open
-  holds : tells → Holds log.last (fresh_text ring (text_of first_record)) (fresh_ends ring) log.image
+  pub holds : tells → Holds log.last (fresh_text ring (text_of first_record)) (fresh_ends ring) log.image
   holds t = fresh_holds ring log.last log.image h.front (text_of first_record) h.ends some sized h.begins log_stands.ring
       (subst (λ (b : List ℕ). Holds log.last (h.front ++ b) h.ends log.image) (append-nil (text_of first_record)) h.holds)
       (subst (λ (n : ℕ). IsRing ring (fresh_text ring (text_of first_record)) (fresh_ends ring) n log.image) (let k : s.logpxd.len - 3 ≡ ring - 1 = omega arith in k) (m.fresh t).ring)
@@ -133,7 +133,7 @@ module _ (tells crashes : Type 0) (s : Super) (image : Image) (volume : Parts) (
       h : HoldsItems ring both.log log.last log.image
       h = (m.mount.log_fresh true false (λ _. t) (none_told crashes)).items refl refl
 
-  rests : crashes → IsResting (last_of log.past)
+  pub rests : crashes → IsResting (last_of log.past)
   rests c = (m.mount.log_fresh false true (none_told tells) (λ _. c)).resting refl refl
 
   -- a fresh log's superblock, of which nothing is pending

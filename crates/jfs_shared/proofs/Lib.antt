@@ -15,3 +15,4 @@ pub mod Pointed
 pub mod Homed
 pub mod Settled
 pub mod Left
+pub mod Uncalled

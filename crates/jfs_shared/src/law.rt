@@ -1,7 +1,7 @@
 //! What follows for a volume and its log that stand for one list.
 
 ghost use Rattle.jfs_shared.specs.Both.{TogetherLaw};
-ghost use Rattle.jfs_shared.specs.Left.{LeftLaw};
+ghost use Rattle.jfs_shared.specs.Left.{LeftLaw, UncalledLaw};
 ghost use Rattle.jfs_shared.specs.Shared.{HistoryLaw, standing, log_standing};
 
 use jfs_disk::Disk;
@@ -19,4 +19,9 @@ pub fn histories_are_legal()
 /// Whatever a crash leaves of a volume and its log, whether or not the log has halted or the history broke off, is redone to the volume's history, with all durable entries: on a disk that tells its contents and crashes, mounted from a keepable image.
 pub fn crashes_are_redone_to_histories<D: Disk>()
     ensures { LeftLaw D.Disk }
+{}
+
+/// Where no call was made, whatever a crash leaves of a volume that was just mounted is redone to it.
+pub fn crashes_of_mounts_are_redone<D: Disk>()
+    ensures { UncalledLaw D.tells D.tells_crashes }
 {}

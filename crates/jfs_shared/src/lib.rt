@@ -15,7 +15,10 @@ mod starting;
 
 pub use calling::call;
 pub use committing::commit_with;
-pub use law::{crashes_are_redone_to_histories, histories_are_legal, values_together_may_commit};
+pub use law::{
+    crashes_are_redone_to_histories, crashes_of_mounts_are_redone, histories_are_legal,
+    values_together_may_commit,
+};
 pub use point_group::PointGroup;
 pub use pointing::{has_room_for_point, point_with};
 pub use recorded::Recorded;

@@ -54,7 +54,7 @@ module _ {V L E : Type 0} (client : E → ℕ) (of_volume : Standing V E) (of_lo
 
       parts : (homes : List (Option (Held V L))) → length homes ≡ 2 → Parts client of_volume of_log (first_now base total) (set (set homes 0 (some (Volume x))) 1 (some (Log y))) (keeping base total ∷ [])
       parts homes two = record {
-        ordered = record { log_listed = prefix_refl []; log_pointed = refl; durable_listed = omega arith; durable_taken = omega arith; taken_listed = omega arith; stable_pointed = omega arith; known = λ _ _. tt };
+        ordered = record { log_listed = prefix_refl []; log_pointed = refl; durable_listed = omega arith; durable_taken = omega arith; taken_listed = omega arith; stable_pointed = omega arith; known = λ _ _. tt; within = tt };
         two = length-set (set homes 0 (some (Volume x))) 1 (some (Log y)) ∙ (length-set homes 0 (some (Volume x)) ∙ two);
         each = λ j u e alive. let t = at_only (keeping base total) u j e in subst (λ (z : ℕ × View E). Fits client (first_now base total) z.0 z.1) (λ k. (sym t.0 k, t.1 k)) fit;
         volume_home = λ _. (x, 0, 0, set_else (set homes 0 (some (Volume x))) 1 0 (some (Log y)) (λ e. omega arith) ∙ set_here homes 0 (some (Volume x)) (omega arith), lo, omega arith, omega arith);

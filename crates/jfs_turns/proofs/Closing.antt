@@ -6,7 +6,7 @@ use lib.ListN.{get_elem?}
 use Rattle.atomic_table.specs.Table.{Final, Seen}
 use Rattle.atomic_table.proofs.Lists.{at_longer, at_last}
 use Rattle.atomic_table.specs.Seated.{TableId}
-use Rattle.jfs_turns.specs.Lists.{IsPrefix, HasOwn, AreOwn}
+use Rattle.jfs_turns.specs.Lists.{IsPrefix, HasOwn, AreOwn, AreOfClients}
 use Rattle.jfs_turns.specs.Views.{fresh_pass, kept, took_back, IsFree}
 use Rattle.jfs_turns.specs.Standing.{Standing}
 use Rattle.jfs_turns.specs.Rule.{IsKept}
@@ -109,5 +109,5 @@ module _ {V L E : Type 0} where
         hi.0,
         f.4 0 (Volume lo.0) lo.3,
         f.4 1 (Log hi.0) hi.1,
-        (end, lo.4, hi.2, (o.log_listed, o.log_pointed, lo.5, o.durable_taken, o.durable_listed, o.taken_listed, lo.6, o.stable_pointed), (λ i p at. let g = all_passes i p at in let bound = back.bounds i p (ap (λ (l : List (Pass V L E)). get_elem? l i) (sym back.whole) ∙ at) in (g.0, le_trans bound.0 know.durable, le_trans bound.1 know.stable)), (λ i p at end_here. (all_passes i p at).1 end_here)),
+        (end, lo.4, hi.2, (o.log_listed, o.log_pointed, lo.5, o.durable_taken, o.durable_listed, o.taken_listed, lo.6, o.stable_pointed), (λ i p at. let g = all_passes i p at in let bound = back.bounds i p (ap (λ (l : List (Pass V L E)). get_elem? l i) (sym back.whole) ∙ at) in (g.0, le_trans bound.0 know.durable, le_trans bound.1 know.stable)), (λ i p at end_here. (all_passes i p at).1 end_here), subst (λ (most : ℕ). AreOfClients client most n.list) (sym b.7 ∙ (last ∙ many)) o.within),
       )

@@ -100,6 +100,7 @@ module _ {V L E : Type 0} (client : E → ℕ) (of_volume : Standing V E) (of_lo
         taken_listed = o.taken_listed;
         stable_pointed = o.stable_pointed;
         known = o.known;
+        within = o.within;
       } in (
         w,
         keeps,

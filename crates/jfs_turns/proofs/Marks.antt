@@ -47,6 +47,7 @@ module _ {V L E : Type 0} (client : E → ℕ) (of_volume : Standing V E) (of_lo
         taken_listed = omega arith;
         stable_pointed = o.stable_pointed;
         known = o.known;
+        within = o.within;
       } in (
         w,
         keeps,
@@ -92,6 +93,7 @@ module _ {V L E : Type 0} (client : E → ℕ) (of_volume : Standing V E) (of_lo
         taken_listed = o.taken_listed;
         stable_pointed = (let a = o.stable_pointed in let b = ap (λ (x : List ℕ). length x) o.log_pointed in omega arith);
         known = o.known;
+        within = o.within;
       } in (
         w,
         keeps,
@@ -135,6 +137,7 @@ module _ {V L E : Type 0} (client : E → ℕ) (of_volume : Standing V E) (of_lo
         taken_listed = o.taken_listed;
         stable_pointed = max-le o.stable_pointed (omega (arith, ap (λ (l : List ℕ). length l) mine.7));
         known = o.known;
+        within = o.within;
       } in (
         w,
         keeps,

@@ -173,7 +173,7 @@ module _ {V L E : Type 0} (client : E → ℕ) (of_volume : Standing V E) (of_lo
     }
 
     next_ordered : IsOrdered client next_now
-    next_ordered = record { log_listed = o.log_listed; log_pointed = o.log_pointed; durable_listed = o.durable_listed; durable_taken = o.durable_taken; taken_listed = o.taken_listed; stable_pointed = o.stable_pointed; known = λ k far. o.known k (omega arith) }
+    next_ordered = record { log_listed = o.log_listed; log_pointed = o.log_pointed; durable_listed = o.durable_listed; durable_taken = o.durable_taken; taken_listed = o.taken_listed; stable_pointed = o.stable_pointed; known = λ k far. o.known k (omega arith); within = o.within }
 
   -- the keeper deals a pass that is not the last
   pub deals_pass : (id : ℕ) (v : View E) → IsKeeper v → v.dealt + 1 < v.back → Splits (IsKept client of_volume of_log) id v (dealt_one v) (fresh_pass v)
@@ -216,7 +216,7 @@ module _ {V L E : Type 0} (client : E → ℕ) (of_volume : Standing V E) (of_lo
   -- once every pass is back, both values are at home
   pub all_back : (id : ℕ) (v : View E) (s : State (Held V L) (View E)) → IsKept client of_volume of_log s → get_elem? s.views id ≡ some v → IsFree v → v.number ≡ v.dealt → v.back + 1 ≡ v.dealt
       → (n : Now E) × VolumeHome client of_volume of_log n s.homes × LogHome client of_volume of_log n s.homes × IsOrdered client n
-      × Knows n.base n.list n.points n.durable n.stable v.base v.list v.points v.durable v.stable × HasOwn client v.number v.list n.list × AreOwn client 1 v.returned n.list
+      × Knows n.base n.list n.points n.durable n.stable v.base v.list v.points v.durable v.stable × HasOwn client v.number v.list n.list × AreOwn client 1 v.returned n.list × (v.number ≡ n.total)
   all_back id v s kept at is last all = let r = born client of_volume of_log s id v kept at (inl is.2) in let n = r.0 in let p = r.2 in let f = p.each id v at is.0 in let mine = f.passes is.1 in
       let top : IsLast client n id v = ⊎_elim (λ (l : IsEarlier client n id v). absurd (omega (arith, l, last, mine.4))) (λ (l : IsLast client n id v). l) mine.5 in
       let out : (has : View E → Bool) (k number : ℕ) → has v ≡ false → Holder has s.views k number → ⊥ = λ has k number no h. let t = (p.each k h.0 h.1 h.2).passes h.3 in
@@ -230,4 +230,5 @@ module _ {V L E : Type 0} (client : E → ℕ) (of_volume : Standing V E) (of_lo
         f.knows,
         mine.3 (λ e. omega (arith, mine.1, e, free)),
         subst (λ (k : ℕ). AreOwn client k v.returned n.list) (omega (arith, top.3.1, top.1, all, mine.4)) top.3.2,
+        top.0,
       )

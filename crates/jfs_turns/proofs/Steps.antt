@@ -8,7 +8,7 @@ use lib.ListN.{get_elem?}
 use prog.Atomic.{either}
 use Rattle.atomic_table.specs.Table.{State, Act, keeps, takes, gives, Valid, homes_after, carried_after, Allows}
 use Rattle.atomic_table.proofs.Lists.{at_set, set_here, set_else, set_again, exchanged}
-use Rattle.jfs_turns.specs.Lists.{IsPrefix, Lacks, HasOwn, AreOwn}
+use Rattle.jfs_turns.specs.Lists.{IsPrefix, Lacks, HasOwn, AreOwn, AreOfClients}
 use Rattle.jfs_turns.specs.Views.{Seated, carried, unborn, ready, IsIdle}
 use Rattle.jfs_turns.specs.Standing.{Standing, VolumeStands}
 use Rattle.jfs_turns.specs.Rule.{IsKept, Now, words_of, Fits, IsEarlier, IsLast, IsOrdered, Holder, has_volume, has_log, VolumeHome, LogHome, Parts, Ruled}
@@ -38,6 +38,10 @@ module _ {E : Type 0} (client : E → ℕ) where
   lacks_more : (e : E) (k : ℕ) → client e ≢ k → (xs : List E) → Lacks client k xs → Lacks client k (xs ++ e ∷ [])
   lacks_more e k ne [] l = (ne, tt)
   lacks_more e k ne (x ∷ xs) l = (l.0, lacks_more e k ne xs l.1)
+
+  within_more : (e : E) (most : ℕ) (xs : List E) → 1 ≤ client e → client e ≤ most → AreOfClients client most xs → AreOfClients client most (xs ++ e ∷ [])
+  within_more e most [] least greatest all = ((least, greatest), tt)
+  within_more e most (x ∷ xs) least greatest all = (all.0, within_more e most xs least greatest all.1)
 
   own_more : (xs ys : List E) (e : E) (k : ℕ) → client e ≢ k → HasOwn client k xs ys → HasOwn client k xs (ys ++ e ∷ [])
   own_more xs ys e k ne h = (h.0 ++ e ∷ [], sym (append_assoc xs h.0 (e ∷ [])) ∙ ap (λ (l : List E). l ++ e ∷ []) h.1, lacks_more e k ne h.0 h.2)
@@ -221,6 +225,7 @@ module _ {V L E : Type 0} (client : E → ℕ) (of_volume : Standing V E) (of_lo
         taken_listed = (let t = o.taken_listed in omega (arith, length-append n.list (e ∷ [])));
         stable_pointed = o.stable_pointed;
         known = λ k far. lacks_more client e k (λ x. omega (arith, mine.3, said.2)) n.list (o.known k far);
+        within = within_more client e n.total n.list (omega (arith, mine.2, said.2)) (⊎_elim (λ (x : client e + n.gone < n.total). omega (arith, x)) (λ (x : client e ≡ n.total). omega (arith, x)) far) o.within;
       } in (
         w,
         keeps,

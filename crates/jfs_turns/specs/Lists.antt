@@ -1,5 +1,6 @@
 -- Lists of entries, and what a pass has seen of them.
-use Rattle.std.specs.Prelude.{◌≡◌, ◌≢◌, ℕ, suc, List, [], ◌∷◌, ◌++◌, cond, ◌==◌}
+use Rattle.std.specs.Prelude.{◌≡◌, ◌≢◌, ◌≤◌, ℕ, suc, List, [], ◌∷◌, ◌++◌, cond, ◌==◌}
+use Rattle.std.specs.List.{AllByRecursion}
 
 -- what both values were made from: plain data that no step changes
 abbrev pub Base : Type 0
@@ -22,6 +23,10 @@ module _ {E : Type 0} (client : E → ℕ) where
   abbrev pub AreOwn : ℕ → List (List E) → List E → Type 0
   AreOwn k [] ys = Unit {0}
   AreOwn k (xs ∷ more) ys = HasOwn k xs ys × AreOwn (suc k) more ys
+
+  -- each entry is of one of the clients 1 to n
+  abbrev pub AreOfClients : ℕ → List E → Type 0
+  AreOfClients n es = AllByRecursion (λ (e : E). (1 ≤ client e) × (client e ≤ n)) es
 
   -- the entries of the client k, in order
   abbrev pub entries_of : ℕ → List E → List E

@@ -3,7 +3,7 @@ use Rattle.std.specs.Prelude.{◌≡◌, ℕ, suc, ◌+◌, ◌≤◌, List, [],
 use mathlib.Core.Option.{some}
 use lib.ListN.{get_elem?}
 use Rattle.atomic_table.specs.Seated.{TableId}
-use Rattle.jfs_turns.specs.Lists.{Base, IsPrefix, HasOwn}
+use Rattle.jfs_turns.specs.Lists.{Base, IsPrefix, HasOwn, AreOfClients}
 use Rattle.jfs_turns.specs.Standing.{Standing}
 use Rattle.jfs_turns.specs.declared.turns.Pass.{Pass}
 
@@ -44,7 +44,7 @@ module _ {V L E : Type 0} (client : E → ℕ) (end : End E) where
   abbrev pub IsOfLast : Pass V L E → Type 0
   IsOfLast p = (p.seat.me.0.base ≡ end.base) × IsPrefix p.seat.me.0.points end.points
 
--- both values stand for one base, and for lists that go on those of all the passes
+-- both values stand for one base, and for lists that go on those of all the passes, and each entry is of a client that has a pass
 abbrev pub AtEnd : {V L E : Type 0} → (E → ℕ) → Standing V E → Standing L E → List (Pass V L E) → V → L → Type 0
 AtEnd {V} {L} {E} client of_volume of_log ps x y = (end : End E) × of_volume x end.base end.list end.taken end.told end.points end.known × of_log y end.base end.log_list end.taken end.durable end.log_points end.stable × IsInOrder end
-    × ((i : ℕ) (p : Pass V L E) → get_elem? ps i ≡ some p → GoesOn client end p) × ((i : ℕ) (p : Pass V L E) → get_elem? ps i ≡ some p → suc i ≡ length ps → IsOfLast client end p)
+    × ((i : ℕ) (p : Pass V L E) → get_elem? ps i ≡ some p → GoesOn client end p) × ((i : ℕ) (p : Pass V L E) → get_elem? ps i ≡ some p → suc i ≡ length ps → IsOfLast client end p) × AreOfClients client (length ps) end.list

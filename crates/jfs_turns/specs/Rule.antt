@@ -5,7 +5,7 @@ use Rattle.std.specs.Prelude.{◌≡◌, ◌≢◌, ◌⊎◌, ℕ, ◌+◌, ◌
 use mathlib.Core.Option.{Option, some}
 use lib.ListN.{get_elem?}
 use Rattle.atomic_table.specs.Table.{State}
-use Rattle.jfs_turns.specs.Lists.{Base, IsPrefix, Lacks, HasOwn, AreOwn}
+use Rattle.jfs_turns.specs.Lists.{Base, IsPrefix, Lacks, HasOwn, AreOwn, AreOfClients}
 use Rattle.jfs_turns.specs.Views.{unborn, ready}
 use Rattle.jfs_turns.specs.Standing.{Standing}
 use Rattle.jfs_turns.specs.declared.view.View.{View}
@@ -86,8 +86,8 @@ module _ {E : Type 0} where
     pub passes : v.main ≡ true → IsPass client n j v
     pub deals : v.keeper ≡ true → Deals client n j v
 
-  -- the log side's entries are a prefix of the volume's, and its syncpoints are the volume's; durable ≤ taken ≤ all; and no entry is of a client that isn't dealt yet
-  pub record Ordered (client : E → ℕ) (list log_list : List E) (points log_points : List ℕ) (taken durable stable dealt : ℕ) : Type 0 where
+  -- the log side's entries are a prefix of the volume's, and its syncpoints are the volume's; durable ≤ taken ≤ all; no entry is of a client that isn't dealt yet, and each is of one of the passes' clients
+  pub record Ordered (client : E → ℕ) (list log_list : List E) (points log_points : List ℕ) (taken durable stable dealt total : ℕ) : Type 0 where
     pub log_listed : IsPrefix log_list list
     pub log_pointed : log_points ≡ points
     pub durable_listed : durable ≤ length log_list
@@ -95,9 +95,10 @@ module _ {E : Type 0} where
     pub taken_listed : taken ≤ length list
     pub stable_pointed : stable ≤ length log_points
     pub known : (k : ℕ) → dealt < k → Lacks client k list
+    pub within : AreOfClients client total list
 
   abbrev pub IsOrdered : (E → ℕ) → Now E → Type 0
-  IsOrdered client n = Ordered client n.list n.log_list n.points n.log_points n.taken n.durable n.stable n.dealt
+  IsOrdered client n = Ordered client n.list n.log_list n.points n.log_points n.taken n.durable n.stable n.dealt n.total
 
   -- the view at the place is a pass's, has the turn, and has its number
   abbrev pub Holder : (View E → Bool) → List (View E) → ℕ → ℕ → Type 0

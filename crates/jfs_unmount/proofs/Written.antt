@@ -39,4 +39,4 @@ module _ (superblock : List ℕ) (p : Parts) (log : LogParts) (count : ℕ) (ima
     where
       by : IsCrashImage (last_of p.past ++ last_of log.past) left ⊎ ((super_of (page_of left 8) ≡ super_of superblock) × ((b : ℕ) → (b ≡ 8 → ⊥) → b < p.blocks → page_of left b ≡ page_of p.view b)) → MayBeMarked superblock p log left
       by (inl was) = inl was
-      by (inr (is, pages)) = inr (record { superblock_is = is; pages_are = pages })
+      by (inr (is, pages)) = inr (record { superblock_is = is; pages_are = pages; disk_are = λ b other below. pages b other below ∙ sym (part.shows b below) })

@@ -37,6 +37,7 @@ pub record Ends (tells crashes : Type 0) (superblock : List ℕ) (old : Parts) (
   pub image_is : tells → image ≡ with_super superblock old.disk ++ log.image
   pub superblock_is : tells → page_of image 8 ≡ superblock
   pub pages_are : tells → (b : ℕ) → b ≢ 8 → b < old.blocks → page_of image b ≡ page_of old.view b
+  pub disk_are : tells → (b : ℕ) → b ≢ 8 → b < old.blocks → page_of image b ≡ page_of old.disk b
   pub low : DiskState
   pub rests : crashes → IsResting low
   pub state : crashes → last_of past ≡ low ++ last_of log.past
@@ -58,10 +59,11 @@ pub record IsUnended (superblock : List ℕ) (old : Parts) (log : LogParts) (ima
 
 -- ---- what a crash leaves
 
--- A superblock that says what the new one says, and the pages that the volume shows.
+-- A superblock that says what the new one says. All other pages are those that the volume shows, and that its part of the disk has.
 pub record IsMarkedLeft (superblock : List ℕ) (old : Parts) (left : Image) : Type 0 where
   pub superblock_is : super_of (page_of left 8) ≡ super_of superblock
   pub pages_are : (b : ℕ) → b ≢ 8 → b < old.blocks → page_of left b ≡ page_of old.view b
+  pub disk_are : (b : ℕ) → b ≢ 8 → b < old.blocks → page_of left b ≡ page_of old.disk b
 
 -- That, or what it may leave of both parts as they were.
 abbrev pub MayBeMarked : List ℕ → Parts → LogParts → Image → Type 0

@@ -1,9 +1,10 @@
 use Rattle.std.proofs.Common.{◌≡◌, List, refl, sym, subst}
 use Rattle.jfs_plain.specs.declared.call.Entry.{Entry}
 use Rattle.jfs_disk.specs.Crash.{last_of}
+use Rattle.jfs_disk.specs.Moment.{IsResting}
 use Rattle.jfs_run.specs.Calls.{Calls}
 use Rattle.jfs_run.specs.Run.{RunIs, seen}
-use Rattle.jfs_run.specs.Left.{LeavesRun, IsLeftUnmounted}
+use Rattle.jfs_run.specs.Left.{LeavesRun, IsLeftNeverMounted}
 use Rattle.jfs_run.specs.Legal.{LeavesImage, IfUnmounted}
 use Rattle.jfs_run.specs.kept_history.specs.Keepable.{IsKeepableImage}
 use Rattle.jfs_command.specs.Held.{held_of}
@@ -27,5 +28,6 @@ returns-clause-ends g c =
     (subst (λ (x : Calls). RunIs d.tells d.tells_crashes s (plan_of c.args.plan.now) c.args.is_left (seen d c.args.disk) (seen d ran.result.disk) x ran.result.end) same ran.ensures.ran)
     (subst (λ (es : List Entry). AreReplies d.tells s (d.image c.args.disk) c.args.now es) (sym made.ensures.history) replies)
     (subst (λ (es : List Entry). d.tells → IfUnmounted ran.result.end c.args.is_left (LeavesImage s (d.image c.args.disk) c.args.now es (d.image ran.result.disk))) (sym made.ensures.history) ran.ensures.leaves)
-    (subst (λ (x : Calls). d.tells → d.tells_crashes → IsKeepableImage s (d.image c.args.disk) → LeavesRun (IsLeftUnmounted s (d.image c.args.disk) (last_of (d.past c.args.disk)) (last_of (d.past ran.result.disk))) s (d.image c.args.disk) c.args.now c.args.is_left x (last_of (d.past ran.result.disk)) ran.result.end) same ran.ensures.left)
+    ran.ensures.again
+    (subst (λ (x : Calls). d.tells → d.tells_crashes → IsKeepableImage s (d.image c.args.disk) → LeavesRun (IsLeftNeverMounted s (d.image c.args.disk) (d.image ran.result.disk) (IsResting (last_of (d.past c.args.disk))) (last_of (d.past ran.result.disk))) s (d.image c.args.disk) c.args.now c.args.is_left x (last_of (d.past ran.result.disk)) ran.result.end) same ran.ensures.left)
     (subst (λ (x : Calls). Tells c.args.redone c.args.printed ran.result.end x made.result.end made.result.text.items) same made.ensures.tells)

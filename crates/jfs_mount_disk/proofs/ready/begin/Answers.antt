@@ -1,9 +1,9 @@
-use Rattle.std.proofs.Common.{◌≡◌, ◌<◌, ◌+◌, ◌∙◌, ◌-◌, ◌^◌, ◌++◌, ℕ, take, drop, min, inl, inr, sym, ap, subst, arith}
+use Rattle.std.proofs.Common.{◌≡◌, ◌<◌, ◌+◌, ◌∙◌, ◌-◌, ◌^◌, ◌++◌, ℕ, List, Err, take, drop, min, inl, inr, sym, ap, subst, arith}
 use Rattle.jfs_bits.specs.Count.{Rose}
 use Rattle.jfs_bits.specs.declared.descriptor.Pxd.{Pxd}
 use Rattle.jfs_disk.specs.Image.{Image, page_of}
-use Rattle.jfs_disk.specs.Crash.{AllSince, last_of}
-use Rattle.jfs_disk.specs.Moment.{now_of}
+use Rattle.jfs_disk.specs.Crash.{DiskState, AllSince, last_of, seen_of}
+use Rattle.jfs_disk.specs.Moment.{IsResting, now_of}
 use Rattle.jfs_logpages.specs.Fresh.{IsFreshLog, IsPartlyFresh}
 use Rattle.jfs_disk.specs.declared.disk.Fault.{Fault}
 use Rattle.jfs_super.specs.declared.fields.Geometry.{Geometry}
@@ -91,6 +91,13 @@ returns-in-Err-clause-left_log g c = λ t k rests left crash.
     inl (ap (λ (im : Image). drop s.logpxd.addr im) (whole_left old (g.D.Disk.image c.in-Err.disk) (g.D.Disk.past c.args.disk) (g.D.Disk.past c.in-Err.disk)
     (c.in-Err.ensures.same_past k) rests (g.met.D.Disk.reads_now c.in-Err.disk k) (c.in-Err.ensures.same_image t) left crash))
 
+pub returns-in-Err-clause-left_high : goal.returns-in-Err-clause-left_high
+returns-in-Err-clause-left_high g c = λ t k rests left crash.
+    let s = c.args.s.now in
+    let old = g.D.Disk.image c.args.disk in
+    ap (λ (im : Image). take s.logpxd.addr im) (whole_left old (g.D.Disk.image c.in-Err.disk) (g.D.Disk.past c.args.disk) (g.D.Disk.past c.in-Err.disk)
+    (c.in-Err.ensures.same_past k) rests (g.met.D.Disk.reads_now c.in-Err.disk k) (c.in-Err.ensures.same_image t) left crash)
+
 pub returns-in-Err-fresh-clause-left_low : goal.returns-in-Err-fresh-clause-left_low
 returns-in-Err-fresh-clause-left_low g c = λ t k rests left crash.
     let s = c.args.s.now in
@@ -165,4 +172,17 @@ returns-in-Err-mark_mounted-clause-left_log g c = λ t k rests left crash.
 
 pub returns-in-Err-mark_mounted-clause-left_high : goal.returns-in-Err-mark_mounted-clause-left_high
 returns-in-Err-mark_mounted-clause-left_high g c = λ t k rests left crash.
-    low_not_high c.args.s.now (g.D.Disk.image c.args.disk) left (g.D.Disk.fault_count c.in-Ok.parts.0) (g.D.Disk.fault_count c.mark_mounted.new.low) c.in-Err-mark_mounted.why c.in-Err-mark_mounted.ensures.cause
+    let s = c.args.s.now in
+    let old = g.D.Disk.image c.args.disk in
+    let log = c.geometry.result.log in
+    let low = c.in-Ok.parts.0 in
+    let now = c.mark_mounted.new.low in
+    let low_past = g.D.Disk.past low in
+    let is = (c.in-Ok.ensures.past k).0 in
+    let resting = low_rests log.addr (g.D.Disk.past c.args.disk) low_past (g.met.D.Disk.has_state c.args.disk k) is rests in
+    low_not_high s old left (g.D.Disk.fault_count low) (g.D.Disk.fault_count now) c.in-Err-mark_mounted.why c.in-Err-mark_mounted.ensures.cause (λ memory.
+    let same : g.D.Disk.past now ≡ low_past = c.mark_mounted.ensures.still k (c.in-Err-mark_mounted.is ∙ ap Err memory) in
+    let stays : take log.addr left ≡ take log.addr old = low_rested log.addr (g.D.Disk.image now) (last_of (g.D.Disk.past c.join-in-Err-mark_mounted.result)) (g.D.Disk.past now) (g.D.Disk.past c.into_part.result) left (c.join-in-Err-mark_mounted.ensures.state k)
+    (g.met.D.Disk.reads_now now k) ((g.met.D.Disk.has_pages now t).number ∙ c.in-Err-mark_mounted.ensures.pages ∙ c.in-Ok.ensures.pages.0) crash (subst (λ (past : List DiskState). IsResting (last_of past)) (sym same) resting)
+    ∙ (g.met.D.Disk.reads_now now k ∙ ap (λ (past : List DiskState). seen_of (last_of past)) same ∙ sym (g.met.D.Disk.reads_now low k) ∙ (c.in-Ok.ensures.image t).0) in
+    place_of (λ (p : Pxd). take p.addr left ≡ take p.addr old) log s.logpxd (ap (λ (l : Geometry). l.log) c.geometry.ensures.layout) stays)

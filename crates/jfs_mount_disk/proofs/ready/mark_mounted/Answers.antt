@@ -1,4 +1,4 @@
-use Rattle.std.proofs.Common.{◌∙◌, ℕ, List, ap, sym, subst, arith}
+use Rattle.std.proofs.Common.{◌∙◌, ℕ, List, Err, ap, sym, subst, arith}
 use Rattle.jfs_bits.specs.Piece.{puts}
 use Rattle.jfs_disk.specs.Crash.{DiskState, AllSince}
 use Rattle.jfs_disk.specs.Moment.{now_of}
@@ -6,6 +6,7 @@ use Rattle.jfs_disk.proofs.WriteThenSync.{resting-synced}
 use Rattle.jfs_super.specs.Super.{pieces}
 use Rattle.jfs_super.specs.declared.fields.TheConstants.VolumeState.{MOUNTED}
 use Rattle.jfs_mount_disk.specs.Begun.{IsPartlyMarked}
+use Rattle.jfs_mount_disk.proofs.Left.{not_memory}
 use Rattle.jfs_mount_disk.proofs.Marking.{still_since, failed_since, written_since, synced_since, later_same, later_push, later_torn}
 use Rattle.jfs_mount_disk.proofs.ready.mark_mounted.Goals as goal
 
@@ -70,3 +71,9 @@ returns-in-Ok-sync-clause-later g c = λ k.
     let two = later_push (g.D.Disk.past c.read.new.self) (g.D.Disk.past c.write.new.self) _ (c.in-Ok-write.ensures.past k) in
     let three = later_push (g.D.Disk.past c.write.new.self) (g.D.Disk.past c.sync.new.self) _ (c.in-Ok-sync.ensures.past k) in
     omega (arith, one, two, three)
+
+pub returns-in-Err-clause-still : goal.returns-in-Err-clause-still
+returns-in-Err-clause-still g c = λ k memory. c.in-Err.ensures.past k
+
+pub returns-in-Err-write-clause-still : goal.returns-in-Err-write-clause-still
+returns-in-Err-write-clause-still g c = λ k memory. absurd (not_memory c.in-Err-write.e _ c.low_error-in-Err-write.result c.low_error-in-Err-write.ensures (λ is. c.write.ensures.no_memory (c.in-Err-write.is ∙ ap Err is)) memory)

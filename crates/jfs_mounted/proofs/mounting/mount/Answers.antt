@@ -36,8 +36,10 @@ pub returns-in-Err-clause-left_high : goal.returns-in-Err-clause-left_high
 returns-in-Err-clause-left_high g c = λ t k rests left crash.
     let s = c.args.s.now in
     let old = g.D.Disk.image c.args.disk in
+    let now = c.find_maps_on.new.disk in
     subst (λ (why : MountError). LeavesUntouched s old why left) (sym c.refusal_of.ensures)
-    (before_untouched s old left (g.D.Disk.fault_count c.args.disk) (g.D.Disk.fault_count c.find_maps_on.new.disk) c.in-Err.why c.in-Err.ensures.fault)
+    (before_untouched s old left (g.D.Disk.fault_count c.args.disk) (g.D.Disk.fault_count now) c.in-Err.why c.in-Err.ensures.fault
+    (still old (g.D.Disk.image now) (g.D.Disk.past c.args.disk) (g.D.Disk.past now) (c.in-Err.ensures.past k) rests (g.met.D.Disk.reads_now now k) (c.in-Err.ensures.image t) left crash))
 
 pub returns-in-Err-clause-found : goal.returns-in-Err-clause-found
 returns-in-Err-clause-found g c = λ t cut.

@@ -11,16 +11,17 @@ use Rattle.jfs_mount.specs.Mount.{broken_mount}
 use Rattle.jfs_mount.specs.meaning.specs.Image.{IsConsistentImage}
 use Rattle.jfs_server.specs.shared.specs.legal.specs.served.specs.volume_calls.specs.Together.{log_parts}
 use Rattle.jfs_server.specs.shared.specs.kept_history.specs.Keepable.{IsKeepableImage}
+use Rattle.jfs_server.specs.shared.specs.kept_history.specs.mounted_maps.specs.Keepable.{IsKeepable}
 use Rattle.jfs_server.specs.shared.specs.legal.specs.served.specs.mounted.specs.Mount.{IsMountCause, IsRefusal, FoundOn}
 use Rattle.jfs_run.specs.Calls.{Calls}
 use Rattle.jfs_run.specs.Ending.{RunSince}
-use Rattle.jfs_run.specs.Left.{LeavesRun, IsLeftUnmounted}
+use Rattle.jfs_run.specs.Left.{LeavesRun, IsLeftNeverMounted}
 use Rattle.jfs_run.specs.Legal.{IsLegalRun, LeavesImage}
 use Rattle.jfs_run.specs.Run.{seen, StayBeside}
 use Rattle.jfs_run.specs.Tasks.{plan_of}
 use Rattle.jfs_run.proofs.Begun.{has_superblock, superblock_below, just_mounted, clean_is}
 use Rattle.jfs_run.proofs.Finished.{ran, unmounted}
-use Rattle.jfs_run.proofs.Unmounted.{LeavesMounts, mounted_anyway, refused_mount, taken_nothing, not_done}
+use Rattle.jfs_run.proofs.NeverMounted.{LeavesMounts, mounted_anyway, refused_mount, taken_nothing, not_done}
 use Rattle.jfs_run.proofs.run.run_from.Given.{Over}
 use Rattle.jfs_run.proofs.run.run_from.Goals as goal
 
@@ -69,6 +70,13 @@ returns-in-Ok-mount-clause-leaves g c = λ t done left.
     subst {A = Super × Image} (λ z. LeavesImage z.0 z.1 c.args.now c.run_mounted.result.history.items (d.image c.run_mounted.result.disk)) (λ i. (c.requires.image.1 i, c.requires.image.0 i))
     (c.run_mounted.ensures.leaves t (taken_clean g c t) done left)
 
+pub returns-in-Ok-mount-clause-again : goal.returns-in-Ok-mount-clause-again
+returns-in-Ok-mount-clause-again g c = λ t crashes checked done left.
+    let from : g.I.MountedFrom.image ≡ g.D.Disk.image c.args.disk = c.requires.image.0 in
+    let block : g.I.MountedFrom.block ≡ c.args.s.now = c.requires.image.1 in
+    subst (λ (s : Super). IsKeepable s (page_of (g.D.Disk.image c.run_mounted.result.disk))) block
+    (c.run_mounted.ensures.again t crashes (subst {A = Super × Image} (λ z. IsKeepableImage z.0 z.1) (λ i. (sym block i, sym from i)) checked) (taken_clean g c t) done left)
+
 pub returns-in-Ok-mount-clause-left : goal.returns-in-Ok-mount-clause-left
 returns-in-Ok-mount-clause-left g c = λ t crashes checked.
     let d = g.D.Disk in
@@ -78,7 +86,7 @@ returns-in-Ok-mount-clause-left g c = λ t crashes checked.
     let block : g.I.MountedFrom.block ≡ s = c.requires.image.1 in
     let calls : Calls = record { history = c.run_mounted.result.history.items; told = c.run_mounted.result.told.items } in
     let state = last_of (d.past c.run_mounted.result.disk) in
-    mounted_anyway (IsLeftUnmounted s image (last_of (d.past c.args.disk)) state) s image c.args.now c.args.is_left calls state c.run_mounted.result.end
+    mounted_anyway (IsLeftNeverMounted s image (d.image c.run_mounted.result.disk) (IsResting (last_of (d.past c.args.disk))) state) s image c.args.now c.args.is_left calls state c.run_mounted.result.end
     (subst {A = Super × Image} (λ z. LeavesRun ⊥ z.0 z.1 c.args.now c.args.is_left calls state c.run_mounted.result.end) (λ i. (block i, from i))
     (c.run_mounted.ensures.left t crashes (subst {A = Super × Image} (λ z. IsKeepableImage z.0 z.1) (λ i. (sym block i, sym from i)) checked) (taken_clean g c t)))
 
@@ -109,7 +117,8 @@ returns-in-Err-mount-clause-left g c = λ t crashes checked.
     let mid = c.take.new.disk in
     let state = last_of (d.past c.in-Err-mount.not.disk) in
     rw (e.disk, e.end, e.history, e.told, c.end_of.ensures)
-    (refused_mount s (d.image old) (last_of (d.past old)) state c.args.now c.args.is_left c.in-Err-mount.not.why checked
+    (refused_mount s (d.image old) (d.image c.in-Err-mount.not.disk) (last_of (d.past old)) state c.args.now c.args.is_left c.in-Err-mount.not.why checked
+    (subst (λ (im : Image). StayBeside s im (d.image c.in-Err-mount.not.disk)) (took.image t) (m.rest t))
     (λ cut. subst (λ (im : Image). FoundOn s im) (took.image t) (m.found t cut))
     (λ rests. (let resting = subst (λ (past : List DiskState). IsResting (last_of past)) (sym (took.past crashes)) rests in
     subst {A = Image} (λ im. Leaves (LeavesMounts s im c.in-Err-mount.not.why) state) (took.image t) (λ left crash. (m.left_low t crashes resting left crash, m.left_high t crashes resting left crash, m.left_log t crashes resting left crash)))))
@@ -119,6 +128,6 @@ returns-in-Err-clause-left g c = λ t crashes checked.
     let d = g.D.Disk in
     let e = c.without_entries.ensures in
     rw (e.disk, e.end, e.history, e.told)
-    (taken_nothing c.args.s.now (d.image c.args.disk) (last_of (d.past c.args.disk)) (last_of (d.past c.take.new.disk)) c.args.now c.args.is_left c.in-Err.end checked
+    (taken_nothing c.args.s.now (d.image c.args.disk) (d.image c.take.new.disk) (last_of (d.past c.args.disk)) (last_of (d.past c.take.new.disk)) c.args.now c.args.is_left c.in-Err.end checked (c.take.ensures.image t)
     (ap last_of (c.take.ensures.past crashes)) (c.take.ensures.seen crashes)
     (λ done. not_done (d.fault_count c.args.disk) (d.fault_count c.take.new.disk) c.in-Err.end c.in-Err.ensures.cause done))

@@ -16,25 +16,25 @@ use Rattle.jfs_mount.specs.meaning.specs.Readers.{readers}
 use Rattle.jfs_server.specs.declared.stopping.Ending.{Ending}
 use Rattle.jfs_server.specs.declared.stopping.Ending.TheVariants.{Home, Left, Full}
 use Rattle.jfs_server.specs.shared.specs.kept_history.specs.Keepable.{IsKeepableImage}
+use Rattle.jfs_server.specs.shared.specs.kept_history.specs.mounted_maps.specs.Keepable.{IsKeepable}
 use Rattle.jfs_server.specs.shared.specs.kept_history.specs.Crash.{IsRedoneToHistory}
 use Rattle.jfs_server.specs.shared.specs.legal.proofs.Known.{laws}
 use Rattle.jfs_server.specs.shared.specs.legal.specs.served.specs.shown.specs.kinds.specs.Images.{HasWholeFiles}
 use Rattle.jfs_server.specs.shared.specs.legal.specs.served.specs.unmount.specs.Unmount.{IsMarkedLeft, MayBeMarked}
 use Rattle.jfs_server.specs.shared.specs.legal.specs.served.specs.volume_calls.specs.Together.{log_parts}
-use Rattle.jfs_run.specs.Calls.{Calls, NoCalls}
-use Rattle.jfs_run.specs.Ending.{IsEnded, is_home, is_full, end_after}
-use Rattle.jfs_run.specs.Left.{IsLeftWith, IsLeftRun, LeavesRun}
+use Rattle.jfs_run.specs.Calls.{Calls}
+use Rattle.jfs_run.specs.Ending.{IsEnded, RunSince, is_home, is_full, end_after}
+use Rattle.jfs_run.specs.Left.{IsLeftWith, IsLeftRun, IsUnmountedBehind, LeavesRun}
 use Rattle.jfs_run.specs.Legal.{EndsOnTree}
 use Rattle.jfs_run.specs.Mounted.{State, state, PartRose}
 use Rattle.jfs_run.specs.Run.{seen}
-use Rattle.jfs_run.specs.Serving.{IsHomeFor, IsUncalled, IsCalled}
+use Rattle.jfs_run.specs.Serving.{IsHomeFor, IsCalled}
 use Rattle.jfs_run.specs.Tasks.{plan_of}
 use Rattle.jfs_run.specs.Telling.{marks_of, told_from, marks_in, marks_left}
 use Rattle.jfs_run.specs.declared.run.RunEnd.{RunEnd}
 use Rattle.jfs_run.specs.declared.run.RunEnd.TheVariants as ends
-use Rattle.jfs_run.proofs.Ended.{HasRun, AreThrough, joint, has_run, rising, run_ends, done_through, through_of, home_of, at_last, not_short, with_lines, no_part, unrisen}
-use Rattle.jfs_run.proofs.Legally.{ends_on}
-use Rattle.jfs_run.proofs.Replied.{legal, was_called}
+use Rattle.jfs_run.proofs.Ended.{HasRun, AreThrough, joint, has_run, rising, run_ends, done_through, through_of, home_of, at_last, with_lines, no_part, unrisen}
+use Rattle.jfs_run.proofs.Legally.{legal_run, ends_on, keepable_on}
 use Rattle.jfs_run.proofs.Told.{told_within}
 use Rattle.jfs_run.proofs.run.run_mounted.Given.{Over}
 use Rattle.jfs_run.proofs.run.run_mounted.Goals as goal
@@ -121,7 +121,8 @@ returns-clause-ran g c =
 
 pub returns-clause-legal : goal.returns-clause-legal
 returns-clause-legal g c = λ t consistent.
-    legal g.D.Disk c.args.scripts.now c.args.now c.args.is_left g.I.MountedFrom.image g.I.MountedFrom.block (first g c) c.serve-mounted.new.marks.items c.serve-mounted.result c.serve-mounted.ensures.served t consistent
+    let x = c.serve-mounted.result in
+    legal_run g.I.MountedFrom.block (page_of g.I.MountedFrom.image) c.args.now x.history.items x.mounted.volume (c.serve-mounted.ensures.served.calls.replied t consistent)
 
 -- what the server says of its calls
 abbrev Called : (g : Over) → goal.After-drop-marks g → Type 0
@@ -138,8 +139,18 @@ on_tree g c k t consistent whole_trees is home left marked =
     let at = at_home g c home in
     ends_on s (page_of image) c.args.now x.history.items x.mounted.volume (k.replied t consistent) laws c.args.taken.superblock.0 left whole_trees is at.home at.runs marked
 
-pub returns-clause-leaves : goal.returns-clause-leaves
-returns-clause-leaves g c = λ t is done left consistent whole_trees.
+keepable_again : (g : Over) (c : goal.After-drop-marks g) → Called g c → g.D.Disk.tells → g.D.Disk.tells_crashes → IsKeepableImage g.I.MountedFrom.block g.I.MountedFrom.image → super_of c.args.taken.superblock.0 ≡ record g.I.MountedFrom.block { state = CLEAN }
+    → c.is_home.result ≡ true → (left : Image) → IsMarkedLeft c.args.taken.superblock.0 c.serve-mounted.result.mounted.volume left → IsKeepable g.I.MountedFrom.block (page_of left)
+keepable_again g c k t crashes checked is home left marked =
+    let x = c.serve-mounted.result in
+    let s = g.I.MountedFrom.block in
+    let image = g.I.MountedFrom.image in
+    let at = at_home g c home in
+    keepable_on s (page_of image) c.args.now x.history.items x.mounted.volume (k.replied t (checked.keepable.consistent)) laws c.args.taken.superblock.0 left (checked.keepable.files) is at.home at.runs marked (k.again t crashes checked)
+
+-- the disk itself, where the run is done and the volume wasn't to be left
+marked_now : (g : Over) (c : goal.After-drop-marks g) → g.D.Disk.tells → c.end_after-end.result ≡ ends.Done → c.args.is_left ≡ false → (c.is_home.result ≡ true) × IsMarkedLeft c.args.taken.superblock.0 c.serve-mounted.result.mounted.volume (g.D.Disk.image c.end-disk.result)
+marked_now g c t done left =
     let d = g.D.Disk in
     let history = c.serve-mounted.result.history.items in
     let told = c.tell.new.told.items in
@@ -149,9 +160,17 @@ returns-clause-leaves g c = λ t is done left consistent whole_trees.
     let passed = done_through is_through c.is_full.result c.args.before total (sym (end_is g c) ∙ done) in
     let no_more = no_part (first g c) (last g c) c.args.before c.requires.before c.ranges.before.fits plan history told is_through (run g c) total c.end-disk.ensures.faults passed.same passed.below in
     let home = at_last (c.is_home.result ≡ true) no_more (comes_home g c left passed.room) in
-    let k = was_called d c.args.scripts.now c.args.now c.args.is_left g.I.MountedFrom.image g.I.MountedFrom.block (first g c) c.serve-mounted.new.marks.items c.serve-mounted.result c.serve-mounted.ensures.served t (through g c passed.whole).whole in
-    on_tree g c k t consistent whole_trees is home (d.image c.end-disk.result)
-    (unrisen (first g c) (last g c) c.args.before c.requires.before c.ranges.before.fits plan history told is_through (run g c) total c.end-disk.ensures.faults passed.same passed.below (c.end-disk.ensures.marked t home))
+    (home, unrisen (first g c) (last g c) c.args.before c.requires.before c.ranges.before.fits plan history told is_through (run g c) total c.end-disk.ensures.faults passed.same passed.below (c.end-disk.ensures.marked t home))
+
+pub returns-clause-again : goal.returns-clause-again
+returns-clause-again g c = λ t crashes checked is done left.
+    let marked = marked_now g c t done left in
+    keepable_again g c c.serve-mounted.ensures.served.calls t crashes checked is marked.0 (g.D.Disk.image c.end-disk.result) marked.1
+
+pub returns-clause-leaves : goal.returns-clause-leaves
+returns-clause-leaves g c = λ t is done left consistent whole_trees.
+    let marked = marked_now g c t done left in
+    on_tree g c c.serve-mounted.ensures.served.calls t consistent whole_trees is marked.0 (g.D.Disk.image c.end-disk.result) marked.1
 
 -- ---- what a crash leaves
 
@@ -175,13 +194,16 @@ module _ (g : Over) (c : goal.After-drop-marks g) (k : Called g c) (t : g.D.Disk
 
   abbrev MayLeave : Image → Type 0
   MayLeave image = IsRedoneToHistory g.I.MountedFrom.block (page_of g.I.MountedFrom.image) with_all.follows.start with_all.list c.serve-mounted.result.mounted.log.durable image
-      ⊎ ((c.args.is_left ≡ false) × EndsOnTree g.I.MountedFrom.block (page_of g.I.MountedFrom.image) c.args.now c.serve-mounted.result.history.items image)
+      ⊎ ((c.args.is_left ≡ false) × IsUnmountedBehind g.I.MountedFrom.block g.I.MountedFrom.image c.args.now c.serve-mounted.result.history.items image)
 
   by_marks : c.is_home.result ≡ true → (image : Image) → MayBeMarked c.args.taken.superblock.0 c.serve-mounted.result.mounted.volume (log_parts g.D.Disk c.serve-mounted.result.mounted.log) image → MayLeave image
   by_marks home image (inl was) = inl (with_all.redone image was)
   by_marks home image (inr marked) = inr (
     (at_home g c home).asked,
-    on_tree g c k t (checked.keepable.consistent) (checked.keepable.files) is home image marked,
+    record {
+      ends = on_tree g c k t (checked.keepable.consistent) (checked.keepable.files) is home image marked;
+      keepable = keepable_again g c k t crashes checked is home image marked;
+    },
   )
 
   leaves_by : (b : Bool) → c.is_home.result ≡ b → Leaves MayLeave (state_now g c)
@@ -195,28 +217,14 @@ module _ (g : Over) (c : goal.After-drop-marks g) (k : Called g c) (t : g.D.Disk
     ended = record { follows = with_all.follows; list = with_all.list; entries_are = with_all.entries_are; left = leaves_by c.is_home.result refl };
   }
 
-disk_not_memory : ◌≡◌ {A = RunEnd} ends.Disk ends.Memory → ⊥
-disk_not_memory e = absurd (cc (e))
-
--- a run that called nothing told nothing
-told_none : (g : Over) (c : goal.After-drop-marks g) → IsUncalled g.D.Disk c.serve-mounted.result → NoCalls (calls g c)
-told_none g c u = (u.history, told_is g c ∙ ap (λ (es : List Entry). told_from 1 c.serve-mounted.result.mounted.log.durable (marks_of (marks_in c.serve-mounted.new.marks.items) es)) u.history)
-
 pub returns-clause-left : goal.returns-clause-left
-returns-clause-left g c = λ t crashes checked is. by t crashes checked is c.serve-mounted.ensures.served.calls c.end_after-end.result (sym (end_is g c))
+returns-clause-left g c = λ t crashes checked is. by (left_run g c c.serve-mounted.ensures.served.calls t crashes checked is) c.end_after-end.result refl
   where
-    whole_by : (e : RunEnd) → end_after c.are_through-is_through.result c.is_full.result c.args.before (g.D.Disk.fault_count c.end-disk.result) ≡ e → e ≡ ends.Done → c.serve-mounted.result.is_whole ≡ true
-    whole_by e is done = (through g c (done_through c.are_through-is_through.result c.is_full.result c.args.before (g.D.Disk.fault_count c.end-disk.result) (is ∙ done)).whole).whole
-
-    by : g.D.Disk.tells → g.D.Disk.tells_crashes → IsKeepableImage g.I.MountedFrom.block g.I.MountedFrom.image → super_of c.args.taken.superblock.0 ≡ record g.I.MountedFrom.block { state = CLEAN } → IsUncalled g.D.Disk c.serve-mounted.result ⊎ Called g c → (e : RunEnd)
-        → end_after c.are_through-is_through.result c.is_full.result c.args.before (g.D.Disk.fault_count c.end-disk.result) ≡ e → LeavesRun ⊥ g.I.MountedFrom.block g.I.MountedFrom.image c.args.now c.args.is_left (calls g c) (state_now g c) e
-    by t crashes checked clean (inr k) ends.Done is = left_run g c k t crashes checked clean
-    by t crashes checked clean (inr k) ends.Disk is = inr (left_run g c k t crashes checked clean)
-    by t crashes checked clean (inr k) ends.Memory is = inr (left_run g c k t crashes checked clean)
-    by t crashes checked clean (inl u) ends.Done is = absurd (false≢true (sym u.is_whole ∙ whole_by ends.Done is refl))
-    by t crashes checked clean (inl u) ends.Disk is = absurd (false≢true (sym u.is_whole ∙ (through g c (not_short c.are_through-is_through.result c.is_full.result c.args.before (g.D.Disk.fault_count c.end-disk.result) (λ short. absurd (disk_not_memory (sym is ∙ short))))).whole))
-    by t crashes checked clean (inl u) ends.Memory is = inl (told_none g c u)
-    by t crashes checked clean calls (ends.BadImage bad) is = tt
+    by : IsLeftRun g.I.MountedFrom.block g.I.MountedFrom.image c.args.now c.args.is_left (calls g c) (state_now g c) → (e : RunEnd) → c.end_after-end.result ≡ e → LeavesRun ⊥ g.I.MountedFrom.block g.I.MountedFrom.image c.args.now c.args.is_left (calls g c) (state_now g c) e
+    by left ends.Done is = left
+    by left ends.Disk is = inr left
+    by left ends.Memory is = inr left
+    by left (ends.BadImage bad) is = absurd (subst (λ (e : RunEnd). RunSince g.D.Disk.tells g.D.Disk.tells_crashes c.args.taken.superblock.0 (plan_of c.args.scripts.now) c.args.is_left c.args.before (seen g.D.Disk c.end-disk.result) (calls g c) e) is (returns-clause-ran g c))
 
 pub returns-clause-rising : goal.returns-clause-rising
 returns-clause-rising g c = rising c.serve-mounted.result.history.items c.tell.new.told.items (run g c).first_told

@@ -28,6 +28,8 @@ returns-in-Ok-clause-ends g c =
           (low_page superblock volume.disk (d.image c.args.m.log.part) (d.image c.join.result) (d.page_count low) (pages t) (image_is t) b other
           (omega (arith, below, c.into_low-low.ensures.place, c.into_low-low.ensures.pages.0))
           ∙ c.into_low-low.ensures.clean t c.requires.home.clean b below);
+      disk_are = λ t b other below. low_page superblock volume.disk (d.image c.args.m.log.part) (d.image c.join.result) (d.page_count low) (pages t) (image_is t) b other
+          (omega (arith, below, c.into_low-low.ensures.place, c.into_low-low.ensures.pages.0));
       low = last_of (d.past c.mark_clean.new.low);
       rests = c.in-Ok.ensures.resting;
       state = λ k. c.join.ensures.state k ∙ ap (λ (p : g.row.D.Denot). last_of (d.past c.mark_clean.new.low) ++ last_of (d.past p)) c.into_part.ensures;
