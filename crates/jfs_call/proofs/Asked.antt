@@ -18,18 +18,13 @@ use Rattle.jfs_plain.specs.declared.call.Request.{Request}
 use Rattle.jfs_plain.specs.declared.refusal.Refusal.TheVariants as refusals
 use Rattle.jfs_plain.specs.declared.reply.Reply.{Reply}
 use Rattle.jfs_plain.specs.declared.reply.Reply.TheVariants as replies
-use Rattle.jfs_ranges.specs.declared.edit.Edit.{Edit}
-use Rattle.jfs_volume_calls.specs.records.specs.Records.{noted}
-use Rattle.jfs_volume_calls.specs.records.specs.Sizes.{entry_size}
 use Rattle.jfs_files.specs.Outcome.{KeepsMaps, ReservesAlone, CarriesReply}
 use Rattle.jfs_files.specs.Written.{renames, ChangesBy, ChangesIfDone}
 use Rattle.jfs_map_files.specs.declared.maps.Maps.{Maps}
 use Rattle.jfs_files.specs.declared.outcome.FileOutcome.{FileOutcome}
 use Rattle.jfs_files.specs.declared.outcome.FileOutcome.TheVariants as files
-use Rattle.jfs_volume_calls.specs.halves.specs.Parts.{Parts, Text}
+use Rattle.jfs_volume_calls.specs.halves.specs.Parts.{Parts}
 use Rattle.jfs_volume_calls.specs.volume.specs.Asked.{maps_in, IsAskedOf, MayReserve}
-use Rattle.jfs_volume_calls.specs.volume.specs.Called.{LacksRoom}
-use Rattle.jfs_volume_calls.specs.volume.specs.Room.{has_room}
 use Rattle.jfs_volume_calls.specs.volume.specs.Settles.{HomesAlone}
 use Rattle.jfs_call.specs.Answer.{RepliedBy, held, IsHeld, is_read_only, IsAnswered}
 use Rattle.jfs_call.specs.Replied.{is_kept_back, TellsSame}
@@ -47,7 +42,7 @@ maps_size : (old new : Maps) → (new ≡ old) ⊎ ReservesAlone old new → len
 maps_size old new (inl e) = same_maps_size old new e
 maps_size old new (inr (taken, reserves, is)) = ap (λ (b : Blocks). length b.states) reserves.now_is ∙ length-each_below _ _
 
-asked_size : (old new : Maps) (outcome : FileOutcome) → KeepsMaps old new outcome → length new.blocks.states ≡ length old.blocks.states
+pub asked_size : (old new : Maps) (outcome : FileOutcome) → KeepsMaps old new outcome → length new.blocks.states ≡ length old.blocks.states
 asked_size old new (files.Changed tx put) k = maps_size old new k
 asked_size old new (files.Same reply) k = same_maps_size old new k
 asked_size old new files.NeedsLog k = same_maps_size old new k
@@ -195,11 +190,6 @@ pub eager_sync : (call : Call) (lazy : Bool) → is_sync call ≡ true → FitsR
 eager_sync calls.Sync true is fits = absurd fits.1
 eager_sync calls.Sync false is fits = refl
 eager_sync _ lazy is fits = absurd (cc (is))
-
--- ---- why it needs the log
-
-pub same_room : (tx : List Edit) (old mid : Parts) → mid.text ≡ old.text → LacksRoom tx mid → LacksRoom tx old
-same_room tx old mid same lacks = record { notes = lacks.notes; each = lacks.each; full = ap (λ (t : Text). has_room t (entry_size (noted tx lacks.notes))) (sym same) ∙ lacks.full }
 
 -- ---- what is reserved
 

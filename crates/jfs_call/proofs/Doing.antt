@@ -13,7 +13,8 @@ use Rattle.jfs_plain.specs.declared.call.Request.{Request}
 use Rattle.jfs_plain.specs.declared.refusal.Refusal.TheVariants.{ReadOnly, IoFault}
 use Rattle.jfs_plain.specs.declared.reply.Reply.TheVariants.{Done, Refused}
 use Rattle.jfs_volume_calls.specs.halves.specs.Parts.{Parts}
-use Rattle.jfs_volume_calls.specs.volume.specs.Asked.{IsAskedOf}
+use Rattle.jfs_volume_calls.specs.volume.specs.Asked.{IsAskedOf, maps_in}
+use Rattle.jfs_volume_calls.specs.volume.proofs.CallJoins.{same_room}
 use Rattle.jfs_call.specs.Answer.{held, IsAnswered}
 use Rattle.jfs_call.specs.Changed.{IsChangedBy}
 use Rattle.jfs_call.specs.Does.{IsSynced, TellsSynced, Syncs, EndsBy, ChangesWhere, AsksFile, DoesWhere, Does}
@@ -22,7 +23,7 @@ use Rattle.jfs_call.specs.declared.outcome.Outcome.{Outcome}
 use Rattle.jfs_call.specs.declared.outcome.Outcome.TheVariants.{NeedsLog, NoMemory}
 use Rattle.jfs_call.specs.declared.reply.Caller.{Caller}
 use Rattle.jfs_call.proofs.Answered.{changed, needs_log, replied, unanswered}
-use Rattle.jfs_call.proofs.Asked.{asked_begun, asked_halted, eager_sync, may_change, may_fail, may_hold, may_wait, same_room, told_same}
+use Rattle.jfs_call.proofs.Asked.{asked_begun, asked_halted, eager_sync, may_change, may_fail, may_hold, may_wait, asked_size, told_same}
 
 -- ---- how it is answered
 
@@ -57,7 +58,7 @@ answered_by tells crashes caller request now old new outcome fits d = answered_w
 
 module _ (tells crashes : Type 0) (caller : Caller) (request : Request) (now : Moment) (old mid new : Parts) where
   needs_changed : (tx : List Edit) (put : List DataPage) (changing : Bool) → AnswersOf tells request now old mid (files.Changed tx put) → IsAskedOf tells crashes old mid → ChangesWhere changing tells crashes caller request tx put mid new NeedsLog → NeedsFor tells request now old
-  needs_changed tx put true answers asked (back, on, lacks) = inl (record { mid = mid; tx = tx; put = put; answers = answers; full = same_room tx old mid (ap (λ (p : Parts). p.text) asked.parts) lacks })
+  needs_changed tx put true answers asked (back, on, lacks) = inl (record { mid = mid; tx = tx; put = put; answers = answers; full = same_room tells tx old mid (ap (λ (p : Parts). p.text) asked.parts) (asked_size (maps_in old) (maps_in mid) (files.Changed tx put) answers.kept) asked.view lacks })
   needs_changed tx put false answers asked (clash, same) = absurd (cc (clash))
 
   needs_file : (answer : FileOutcome) → AnswersOf tells request now old mid answer → IsAskedOf tells crashes old mid → EndsBy tells crashes caller request answer mid new NeedsLog → NeedsFor tells request now old

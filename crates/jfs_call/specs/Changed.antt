@@ -43,5 +43,5 @@ pub record FailsUnsaid (tells crashes : Type 0) (tx : List Edit) (put : List Dat
 
 abbrev pub IsChangedBy : (tells crashes : Type 0) → Caller → Request → List Edit → List DataPage → Parts → Parts → Outcome → Type 0
 IsChangedBy tells crashes caller request tx put old new (Replied reply entry waits) = IsDoneBy tells crashes caller request tx put old new reply entry waits ⊎ ((fault : Fault) × IsFailedBy tells crashes caller request tx put fault old new reply entry waits)
-IsChangedBy tells crashes caller request tx put old new NeedsLog = GivesBack tx old new × GoesOn tells crashes old new × LacksRoom tx old
+IsChangedBy tells crashes caller request tx put old new NeedsLog = GivesBack tx old new × GoesOn tells crashes old new × LacksRoom tells tx old
 IsChangedBy tells crashes caller request tx put old new NoMemory = (MayGiveBack tx old new × GoesOn tells crashes old new) ⊎ ((new ≡ old) ⊎ FailsUnsaid tells crashes tx put old new)

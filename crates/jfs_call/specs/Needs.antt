@@ -23,7 +23,7 @@ pub record LacksLog (tells : Type 0) (request : Request) (now : Moment) (old : P
   pub tx : List Edit
   pub put : List DataPage
   pub answers : AnswersOf tells request now old mid (Changed tx put)
-  pub full : LacksRoom tx old
+  pub full : LacksRoom tells tx old
 
 -- or busy blocks stand between the call and its blocks
 abbrev pub AwaitsBlocks : (tells : Type 0) → Request → Moment → Parts → Type 0

@@ -125,6 +125,7 @@ module _ (tells crashes : Type 0) (told : tells) (left : crashes) where
       each = j.joins.each;
       notes_are = λ t. j.joins.notes_are told;
       loggable = j.joins.loggable;
+      room = j.joins.room;
       marks_are = λ t. j.joins.marks_are told;
       behind = j.joins.behind;
       gone = j.joins.gone;

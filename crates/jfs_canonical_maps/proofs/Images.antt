@@ -6,15 +6,15 @@ use Rattle.std.proofs.lemmas.Bool.{cases_Bool, cond-true, cond-false}
 use Rattle.jfs_ranges.specs.declared.edit.Edit.{Edit}
 use Rattle.jfs_ranges.specs.Apply.{apply_tx, apply_edit}
 use Rattle.jfs_ranges.proofs.Overlaid.{length-apply_edit}
-use Rattle.jfs_steps.specs.objects.specs.Objects.{is_live}
-use Rattle.jfs_steps.specs.objects.specs.Readers.{Readers}
-use Rattle.jfs_steps.specs.objects.specs.Volume.{slot_of}
-use Rattle.jfs_recovery.specs.crash_core.proofs.Bytes.{length-apply_tx}
-use Rattle.jfs_recovery.specs.Face.{IsFace, Pages, Item, Value, IsClosed, IsStep}
-use Rattle.jfs_recovery.specs.Core.{Core, count, entry, image}
-use Rattle.jfs_recovery.specs.Sound.{IsSound}
-use Rattle.jfs_recovery.specs.records.specs.Redo.{all_of, is_noredo, redone}
-use Rattle.jfs_recovery.proofs.Images.{canonical_image}
+use Rattle.jfs_face.specs.steps.specs.objects.specs.Objects.{is_live}
+use Rattle.jfs_face.specs.steps.specs.objects.specs.Readers.{Readers}
+use Rattle.jfs_face.specs.steps.specs.objects.specs.Volume.{slot_of}
+use Rattle.jfs_face.specs.recovery.specs.crash_core.proofs.Bytes.{length-apply_tx}
+use Rattle.jfs_face.specs.recovery.specs.Face.{IsFace, Pages, Item, Value, IsClosed, IsStep}
+use Rattle.jfs_face.specs.recovery.specs.Core.{Core, count, entry, image}
+use Rattle.jfs_face.specs.recovery.specs.Sound.{IsSound}
+use Rattle.jfs_face.specs.recovery.specs.records.specs.Redo.{all_of, is_noredo, redone}
+use Rattle.jfs_face.specs.recovery.proofs.Images.{canonical_image}
 use Rattle.jfs_face.specs.Places.{Places, is_map_page}
 use Rattle.jfs_face.specs.Items.{home, extent_by, set_by}
 use Rattle.jfs_face.specs.Redo.{pages_redone, items_redone}

@@ -10,12 +10,12 @@ use Rattle.jfs_bits.proofs.SameMaps.{word-below}
 use Rattle.jfs_iag.specs.Iag.{no_run}
 use Rattle.jfs_ranges.specs.declared.edit.Edit.{Edit}
 use Rattle.jfs_ranges.specs.declared.edit.Edit.TheVariants.{Lines, NoRedo, Alloc, Free}
-use Rattle.jfs_steps.specs.After.{is_extent, place_in, four_from, takes}
-use Rattle.jfs_steps.specs.objects.specs.Owners.{run_has}
-use Rattle.jfs_recovery.specs.records.specs.Redo.{all_of}
-use Rattle.jfs_recovery.specs.Face.{Pages, Item, Value}
-use Rattle.jfs_recovery.specs.Face.Item.{BlockBit, ExtentPlace}
-use Rattle.jfs_recovery.specs.Face.Value.{InUse, At}
+use Rattle.jfs_face.specs.steps.specs.After.{is_extent, place_in, four_from, takes}
+use Rattle.jfs_face.specs.steps.specs.objects.specs.Owners.{run_has}
+use Rattle.jfs_face.specs.recovery.specs.records.specs.Redo.{all_of}
+use Rattle.jfs_face.specs.recovery.specs.Face.{Pages, Item, Value}
+use Rattle.jfs_face.specs.recovery.specs.Face.Item.{BlockBit, ExtentPlace}
+use Rattle.jfs_face.specs.recovery.specs.Face.Value.{InUse, At}
 use Rattle.jfs_face.specs.Places.{Places}
 use Rattle.jfs_face.specs.Items.{bit_of, place_of, places, home, set_item, set_by}
 use Rattle.jfs_face.specs.Marks.{puts, any_puts}

@@ -4,12 +4,12 @@ use Rattle.std.specs.Int.RustNames.{bit_and}
 use Rattle.std.proofs.lemmas.Bool.Decides.{nat_tests}
 use Rattle.jfs_bits.specs.declared.extent.Xad.{Xad}
 use Rattle.jfs_bits.specs.declared.descriptor.Pxd.{Pxd}
-use Rattle.jfs_steps.specs.objects.specs.Readers.{Readers}
-use Rattle.jfs_steps.specs.objects.specs.Volume.{Volume}
-use Rattle.jfs_steps.specs.objects.specs.Owners.{Agrees, owners, bit, covers, run_has}
-use Rattle.jfs_steps.specs.objects.specs.Contents.{block_of, block_in}
-use Rattle.jfs_steps.specs.objects.specs.Image.{file_extents, file_has, area_on, volume_on}
-use Rattle.jfs_steps.specs.objects.proofs.Blocks.{covered}
+use Rattle.jfs_face.specs.steps.specs.objects.specs.Readers.{Readers}
+use Rattle.jfs_face.specs.steps.specs.objects.specs.Volume.{Volume}
+use Rattle.jfs_face.specs.steps.specs.objects.specs.Owners.{Agrees, owners, bit, covers, run_has}
+use Rattle.jfs_face.specs.steps.specs.objects.specs.Contents.{block_of, block_in}
+use Rattle.jfs_face.specs.steps.specs.objects.specs.Image.{file_extents, file_has, area_on, volume_on}
+use Rattle.jfs_face.specs.steps.specs.objects.proofs.Blocks.{covered}
 use Rattle.jfs_canonical_maps.specs.Places.{OwnPlacesLaw}
 
 -- ---- extents that have no block twice

@@ -7,8 +7,8 @@ use Rattle.jfs_map_bytes.specs.BlockMap.{block_map_bytes}
 use Rattle.jfs_map_bytes.specs.InodeMap.{links_of, inode_map_bytes}
 use Rattle.jfs_map_bytes.specs.Laws.{FitsInodeMap, IsInodePage}
 use Rattle.jfs_map_bytes.proofs.Whole.{block_pages, inode_pages}
-use Rattle.jfs_steps.specs.bmap.specs.MapFile.{pages_of, is_in_use, IsMapPage}
-use Rattle.jfs_recovery.specs.Face.{Pages, Item, Value}
+use Rattle.jfs_face.specs.steps.specs.bmap.specs.MapFile.{pages_of, is_in_use, IsMapPage}
+use Rattle.jfs_face.specs.recovery.specs.Face.{Pages, Item, Value}
 use Rattle.jfs_face.specs.Places.{Places, is_block_page, is_inode_page}
 use Rattle.jfs_face.specs.Items.{extent_by}
 use Rattle.jfs_face.specs.MapPages.{taken_by, inode_used_by, IsInodeMapPage, IsCanonicalPage}

@@ -4,8 +4,8 @@ use Rattle.jfs_ranges.specs.declared.edit.Edit.{Edit}
 use Rattle.jfs_ranges.specs.Apply.{apply_tx}
 use Rattle.jfs_map_bytes.specs.BlockMap.{block_map_bytes}
 use Rattle.jfs_map_bytes.specs.InodeMap.{inode_map_bytes}
-use Rattle.jfs_steps.specs.bmap.specs.MapFile.{pages_of, is_in_use}
-use Rattle.jfs_recovery.specs.Face.{Pages, Item, Value}
+use Rattle.jfs_face.specs.steps.specs.bmap.specs.MapFile.{pages_of, is_in_use}
+use Rattle.jfs_face.specs.recovery.specs.Face.{Pages, Item, Value}
 use Rattle.jfs_face.specs.Places.{Places, is_block_page, is_map_page}
 use Rattle.jfs_face.specs.Items.{set_by, extent_by}
 use Rattle.jfs_face.specs.MapPages.{taken_by, inode_used_by}

@@ -4,11 +4,11 @@ use Rattle.std.specs.List.{AllByRecursion}
 use Rattle.jfs_bits.specs.Field.{AreBytes}
 use Rattle.jfs_bits.specs.Descriptor.{FitsPxd}
 use Rattle.jfs_ranges.specs.declared.edit.Edit.{Edit}
-use Rattle.jfs_steps.specs.After.{takes}
-use Rattle.jfs_steps.specs.objects.specs.Readers.{Readers}
-use Rattle.jfs_recovery.specs.Face.{Face, Pages, Item, Value, IsStart, IsStep, IsRedone}
-use Rattle.jfs_recovery.specs.Core.{Core, count, entry, image}
-use Rattle.jfs_recovery.specs.Sound.{IsSound}
+use Rattle.jfs_face.specs.steps.specs.After.{takes}
+use Rattle.jfs_face.specs.steps.specs.objects.specs.Readers.{Readers}
+use Rattle.jfs_face.specs.recovery.specs.Face.{Face, Pages, Item, Value, IsStart, IsStep, IsRedone}
+use Rattle.jfs_face.specs.recovery.specs.Core.{Core, count, entry, image}
+use Rattle.jfs_face.specs.recovery.specs.Sound.{IsSound}
 use Rattle.jfs_face.specs.Places.{Places, AreInAreas, is_map_page}
 use Rattle.jfs_face.specs.Items.{AreItems, extent_by, places}
 use Rattle.jfs_face.specs.MapPages.{IsCanonicalPage}

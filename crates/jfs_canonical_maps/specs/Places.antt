@@ -2,10 +2,10 @@
 use Rattle.std.specs.Prelude.{◌≡◌, ◌≤◌, ℕ, true, List}
 use Rattle.jfs_bits.specs.declared.descriptor.Pxd.{Pxd}
 use Rattle.jfs_map_bytes.specs.Laws.{FitsBlockMap}
-use Rattle.jfs_steps.specs.bmap.specs.MapFile.{is_in_use}
-use Rattle.jfs_steps.specs.objects.specs.Readers.{Readers}
-use Rattle.jfs_steps.specs.objects.specs.Owners.{Agrees}
-use Rattle.jfs_steps.specs.objects.specs.Image.{volume_on}
+use Rattle.jfs_face.specs.steps.specs.bmap.specs.MapFile.{is_in_use}
+use Rattle.jfs_face.specs.steps.specs.objects.specs.Readers.{Readers}
+use Rattle.jfs_face.specs.steps.specs.objects.specs.Owners.{Agrees}
+use Rattle.jfs_face.specs.steps.specs.objects.specs.Image.{volume_on}
 use Rattle.jfs_face.specs.Places.{Places}
 use Rattle.jfs_face.specs.Mounted.{places_on, HasMapPages}
 

@@ -13,8 +13,8 @@ use Rattle.jfs_shown.specs.meaning.specs.Readers.{readers}
 use Rattle.jfs_shown.specs.bmap.specs.MapFile.{is_in_use}
 use Rattle.jfs_shown.specs.objects.specs.Readers.{Readers}
 use Rattle.jfs_shown.specs.objects.specs.Image.{file_page}
-use Rattle.jfs_held_volumes.specs.image_volumes.proofs.Read.{file_page_is}
-use Rattle.jfs_held_volumes.specs.survival.specs.face.specs.Mounted.{HasMapPages}
+use Rattle.jfs_mounted_places.specs.held.specs.image_volumes.proofs.Read.{file_page_is}
+use Rattle.jfs_mounted_places.specs.held.specs.survival.specs.face.specs.Mounted.{HasMapPages}
 use Rattle.jfs_mounted_places.specs.Mounted.{SetsPast}
 use Rattle.jfs_mounted_places.specs.Places.{places_of}
 use Rattle.jfs_checked_maps.specs.Past.{PastLaw}

@@ -4,7 +4,7 @@ use Rattle.jfs_super.specs.Rules.{blocks_of}
 use Rattle.jfs_super.specs.declared.fields.Super.{Super}
 use Rattle.jfs_findings_new.specs.mount_rules.specs.Subject.{subject_of}
 use Rattle.jfs_agree.specs.Agree.{MapsAgree}
-use Rattle.jfs_held_volumes.specs.survival.specs.face.specs.Mounted.{HasMapPages}
+use Rattle.jfs_mounted_places.specs.held.specs.survival.specs.face.specs.Mounted.{HasMapPages}
 use Rattle.jfs_mounted_places.specs.Mounted.{SetsPast}
 use Rattle.jfs_mounted_places.specs.Places.{places_of}
 use Rattle.jfs_shown.specs.meaning.specs.Readers.{readers}

@@ -20,19 +20,19 @@ use Rattle.jfs_shown.specs.objects.specs.Volume.{home}
 use Rattle.jfs_shown.specs.objects.proofs.Homes.{home_counts}
 use Rattle.jfs_left_maps.specs.Items.{IsExtent, IsOfHistory}
 use Rattle.jfs_left_maps.proofs.Items.{items_law}
-use Rattle.jfs_held_volumes.specs.canonical_maps.specs.Laws.{HasMapBytes}
-use Rattle.jfs_held_volumes.specs.canonical_maps.proofs.Items.{read-fit}
-use Rattle.jfs_held_volumes.specs.survival.specs.MapMarks.{map_marks}
-use Rattle.jfs_held_volumes.specs.survival.specs.face.specs.Items.{AreItems, places, place_of, extent_by, set_by, read, home as item_home}
-use Rattle.jfs_held_volumes.specs.survival.specs.face.specs.Places.{Places, is_map_page}
-use Rattle.jfs_held_volumes.specs.survival.specs.face.specs.Redo.{items_redone}
-use Rattle.jfs_held_volumes.specs.survival.specs.face.specs.Volume.{items_on}
-use Rattle.jfs_held_volumes.specs.survival.specs.face.proofs.InRow.{redo_law}
-use Rattle.jfs_held_volumes.specs.survival.specs.face.proofs.Reading.{at_home}
-use Rattle.jfs_held_volumes.specs.survival.specs.recovery.specs.Core.{Core, count, image}
-use Rattle.jfs_held_volumes.specs.survival.specs.recovery.specs.Face.{Pages, Item, Value}
-use Rattle.jfs_held_volumes.specs.survival.specs.recovery.specs.Face.Item.{ExtentPlace}
-use Rattle.jfs_held_volumes.specs.survival.specs.recovery.specs.Sound.{IsLogImage, window}
+use Rattle.jfs_held_maps.specs.mounted_places.specs.held.specs.canonical_maps.specs.Laws.{HasMapBytes}
+use Rattle.jfs_held_maps.specs.mounted_places.specs.held.specs.canonical_maps.proofs.Items.{read-fit}
+use Rattle.jfs_held_maps.specs.mounted_places.specs.held.specs.survival.specs.MapMarks.{map_marks}
+use Rattle.jfs_held_maps.specs.mounted_places.specs.held.specs.survival.specs.face.specs.Items.{AreItems, places, place_of, extent_by, set_by, read, home as item_home}
+use Rattle.jfs_held_maps.specs.mounted_places.specs.held.specs.survival.specs.face.specs.Places.{Places, is_map_page}
+use Rattle.jfs_held_maps.specs.mounted_places.specs.held.specs.survival.specs.face.specs.Redo.{items_redone}
+use Rattle.jfs_held_maps.specs.mounted_places.specs.held.specs.survival.specs.face.specs.Volume.{items_on}
+use Rattle.jfs_held_maps.specs.mounted_places.specs.held.specs.survival.specs.face.proofs.InRow.{redo_law}
+use Rattle.jfs_held_maps.specs.mounted_places.specs.held.specs.survival.specs.face.proofs.Reading.{at_home}
+use Rattle.jfs_held_maps.specs.mounted_places.specs.held.specs.survival.specs.recovery.specs.Core.{Core, count, image}
+use Rattle.jfs_held_maps.specs.mounted_places.specs.held.specs.survival.specs.recovery.specs.Face.{Pages, Item, Value}
+use Rattle.jfs_held_maps.specs.mounted_places.specs.held.specs.survival.specs.recovery.specs.Face.Item.{ExtentPlace}
+use Rattle.jfs_held_maps.specs.mounted_places.specs.held.specs.survival.specs.recovery.specs.Sound.{IsLogImage, window}
 use Rattle.jfs_redo.specs.Apart.{KeepsOffMaps, AreNamedOnce}
 use Rattle.jfs_redo.specs.Partly.{MapsStandApart, extents_then}
 use Rattle.jfs_redo.specs.redo_steps.specs.Pages.{redone_page}

@@ -9,14 +9,14 @@ use Rattle.jfs_shown.specs.objects.specs.Contents.{block_of}
 use Rattle.jfs_shown.specs.objects.specs.Image.{file_extents, file_page, iags_on}
 use Rattle.jfs_left_maps.specs.Items.{HasFours}
 use Rattle.jfs_left_maps.specs.Sizes.{SaysSizes}
-use Rattle.jfs_held_volumes.specs.survival.specs.MapMarks.{map_marks}
-use Rattle.jfs_held_volumes.specs.survival.specs.face.specs.Mounted.{HasMapPages}
-use Rattle.jfs_held_volumes.specs.survival.specs.face.specs.Places.{Places, AreInAreas, is_map_page}
-use Rattle.jfs_held_volumes.specs.survival.specs.face.specs.Recovered.{IsVolumeAt}
-use Rattle.jfs_held_volumes.specs.survival.specs.face.specs.Volume.{face_of}
-use Rattle.jfs_held_volumes.specs.survival.specs.recovery.specs.Core.{Core, count, image}
-use Rattle.jfs_held_volumes.specs.survival.specs.recovery.specs.Face.{Pages}
-use Rattle.jfs_held_volumes.specs.survival.specs.recovery.specs.Sound.{IsSound, IsLeft, IsLogImage, window}
+use Rattle.jfs_held_maps.specs.mounted_places.specs.held.specs.survival.specs.MapMarks.{map_marks}
+use Rattle.jfs_held_maps.specs.mounted_places.specs.held.specs.survival.specs.face.specs.Mounted.{HasMapPages}
+use Rattle.jfs_held_maps.specs.mounted_places.specs.held.specs.survival.specs.face.specs.Places.{Places, AreInAreas, is_map_page}
+use Rattle.jfs_held_maps.specs.mounted_places.specs.held.specs.survival.specs.face.specs.Recovered.{IsVolumeAt}
+use Rattle.jfs_held_maps.specs.mounted_places.specs.held.specs.survival.specs.face.specs.Volume.{face_of}
+use Rattle.jfs_held_maps.specs.mounted_places.specs.held.specs.survival.specs.recovery.specs.Core.{Core, count, image}
+use Rattle.jfs_held_maps.specs.mounted_places.specs.held.specs.survival.specs.recovery.specs.Face.{Pages}
+use Rattle.jfs_held_maps.specs.mounted_places.specs.held.specs.survival.specs.recovery.specs.Sound.{IsSound, IsLeft, IsLogImage, window}
 use Rattle.jfs_held_maps.specs.mounted_places.specs.Places.{groups_of}
 use Rattle.jfs_crashed.specs.Crashed.{KeepsApart}
 use Rattle.jfs_redone_volumes.specs.Redone.{found_places}

@@ -4,5 +4,6 @@ pub mod Facts
 pub mod Places
 pub mod Rules
 pub mod Can
+pub mod Data
 pub mod Sound
 pub mod Redone

@@ -8,8 +8,8 @@ use Rattle.jfs_records.specs.Records.{tx_of}
 use Rattle.jfs_records.specs.Redo.{all_of}
 use Rattle.jfs_log_window.specs.Events.{IsQuiet}
 use Rattle.jfs_log_window.specs.Window.{committed_in}
-use Rattle.jfs_held_volumes.specs.survival.specs.halves.specs.Entry.{Happened, edits}
-use Rattle.jfs_held_volumes.specs.survival.specs.recovery.specs.Core.{Core, Done, nothing, entry}
+use Rattle.jfs_held_maps.specs.mounted_places.specs.held.specs.survival.specs.halves.specs.Entry.{Happened, edits}
+use Rattle.jfs_held_maps.specs.mounted_places.specs.held.specs.survival.specs.recovery.specs.Core.{Core, Done, nothing, entry}
 
 -- ---- those without a COMMIT in the log have no edits
 

@@ -15,23 +15,23 @@ use Rattle.jfs_shown.specs.objects.specs.Image.{file_extents, file_page, iags_on
 use Rattle.jfs_shown.specs.objects.specs.Readers.{Readers}
 use Rattle.jfs_left_maps.specs.Sizes.{SaysSizes}
 use Rattle.jfs_left_maps.proofs.Sizes.{sizes_law}
-use Rattle.jfs_held_volumes.specs.image_volumes.specs.Stands.{FixedStay}
-use Rattle.jfs_held_volumes.specs.image_volumes.proofs.Next.{in_areas}
-use Rattle.jfs_held_volumes.specs.image_volumes.proofs.Read.{file_page_is}
-use Rattle.jfs_held_volumes.specs.survival.specs.MapMarks.{map_marks}
-use Rattle.jfs_held_volumes.specs.survival.specs.Laws.{left_by}
-use Rattle.jfs_held_volumes.specs.survival.proofs.Crashes.{left as crash_left}
-use Rattle.jfs_held_volumes.specs.survival.specs.face.specs.Mounted.{HasMapPages}
-use Rattle.jfs_held_volumes.specs.survival.specs.face.specs.Places.{Places, AreInAreas, is_map_page}
-use Rattle.jfs_held_volumes.specs.survival.specs.face.specs.Recovered.{IsVolumeAt}
-use Rattle.jfs_held_volumes.specs.survival.specs.face.proofs.Reading.{block_page, inode_page}
-use Rattle.jfs_held_volumes.specs.survival.specs.face.proofs.Whole.{is_face}
-use Rattle.jfs_held_volumes.specs.survival.specs.recovery.specs.crash_core.specs.Core.{Block}
-use Rattle.jfs_held_volumes.specs.survival.specs.recovery.specs.Core.{Core, count, image}
-use Rattle.jfs_held_volumes.specs.survival.specs.recovery.specs.Face.{Face, IsFace, Pages}
-use Rattle.jfs_held_volumes.specs.survival.specs.recovery.specs.Sound.{IsSound, IsLeft, IsLogImage, window}
-use Rattle.jfs_held_volumes.specs.survival.specs.recovery.proofs.Parts.{fixed_low}
-use Rattle.jfs_held_volumes.specs.Held.{Mount, Held, IsHeld, face_at}
+use Rattle.jfs_held_maps.specs.mounted_places.specs.held.specs.image_volumes.specs.Stands.{FixedStay}
+use Rattle.jfs_held_maps.specs.mounted_places.specs.held.specs.image_volumes.proofs.Next.{in_areas}
+use Rattle.jfs_held_maps.specs.mounted_places.specs.held.specs.image_volumes.proofs.Read.{file_page_is}
+use Rattle.jfs_held_maps.specs.mounted_places.specs.held.specs.survival.specs.MapMarks.{map_marks}
+use Rattle.jfs_held_maps.specs.mounted_places.specs.held.specs.survival.specs.Laws.{left_by}
+use Rattle.jfs_held_maps.specs.mounted_places.specs.held.specs.survival.proofs.Crashes.{left as crash_left}
+use Rattle.jfs_held_maps.specs.mounted_places.specs.held.specs.survival.specs.face.specs.Mounted.{HasMapPages}
+use Rattle.jfs_held_maps.specs.mounted_places.specs.held.specs.survival.specs.face.specs.Places.{Places, AreInAreas, is_map_page}
+use Rattle.jfs_held_maps.specs.mounted_places.specs.held.specs.survival.specs.face.specs.Recovered.{IsVolumeAt}
+use Rattle.jfs_held_maps.specs.mounted_places.specs.held.specs.survival.specs.face.proofs.Reading.{block_page, inode_page}
+use Rattle.jfs_held_maps.specs.mounted_places.specs.held.specs.survival.specs.face.proofs.Whole.{is_face}
+use Rattle.jfs_held_maps.specs.mounted_places.specs.held.specs.survival.specs.recovery.specs.crash_core.specs.Core.{Block}
+use Rattle.jfs_held_maps.specs.mounted_places.specs.held.specs.survival.specs.recovery.specs.Core.{Core, count, image}
+use Rattle.jfs_held_maps.specs.mounted_places.specs.held.specs.survival.specs.recovery.specs.Face.{Face, IsFace, Pages}
+use Rattle.jfs_held_maps.specs.mounted_places.specs.held.specs.survival.specs.recovery.specs.Sound.{IsSound, IsLeft, IsLogImage, window}
+use Rattle.jfs_held_maps.specs.mounted_places.specs.held.specs.survival.specs.recovery.proofs.Parts.{fixed_low}
+use Rattle.jfs_held_maps.specs.mounted_places.specs.held.specs.Held.{Mount, Held, IsHeld, face_at}
 use Rattle.jfs_held_maps.specs.Maps.{KeepsMaps}
 use Rattle.jfs_held_maps.proofs.Places.{places_law, first_law, area_within, map_within}
 use Rattle.jfs_held_maps.specs.mounted_places.specs.Mounted.{mount_of}

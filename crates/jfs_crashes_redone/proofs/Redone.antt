@@ -19,29 +19,31 @@ use Rattle.jfs_log_window.specs.Events.{IsQuiet}
 use Rattle.jfs_log_window.specs.Window.{CommitsWindow}
 use Rattle.jfs_left_volumes.proofs.Left.{log_image, window_is}
 use Rattle.jfs_left_volumes.proofs.Quiet.{quiet-take, quiet-drop, redone_same}
-use Rattle.jfs_held_volumes.specs.survival.specs.MapMarks.{map_marks}
-use Rattle.jfs_held_volumes.specs.survival.specs.halves.specs.Entry.{Happened}
-use Rattle.jfs_held_volumes.specs.survival.specs.face.specs.Places.{Places, is_map_page}
-use Rattle.jfs_held_volumes.specs.survival.specs.face.specs.Volume.{face_of}
-use Rattle.jfs_held_volumes.specs.survival.specs.face.proofs.Owned.{map_matters, fixed_matters}
-use Rattle.jfs_held_volumes.specs.survival.specs.face.proofs.Whole.{is_face}
-use Rattle.jfs_held_volumes.specs.survival.specs.recovery.specs.kinds.specs.Images.{HasWholeFiles, IsSameVolume}
-use Rattle.jfs_held_volumes.specs.survival.specs.recovery.specs.Core.{Core, count, image, matters_at}
-use Rattle.jfs_held_volumes.specs.survival.specs.recovery.specs.Face.{Face, Pages, IsRedone as IsRedoneOf}
-use Rattle.jfs_held_volumes.specs.survival.specs.recovery.specs.Sound.{IsLogImage, window as core_window}
-use Rattle.jfs_held_volumes.specs.survival.specs.recovery.specs.objects.specs.Image.{volume_on}
-use Rattle.jfs_held_volumes.specs.survival.specs.recovery.specs.objects.specs.Readers.{Readers}
-use Rattle.jfs_held_volumes.specs.survival.specs.recovery.specs.objects.specs.Volume.{Volume}
-use Rattle.jfs_held_volumes.specs.survival.specs.recovery.proofs.Redo.{always_recovers, size_left}
-use Rattle.jfs_held_volumes.specs.survival.proofs.Changes.{counted}
-use Rattle.jfs_held_volumes.specs.Held.{Held, IsHeld}
-use Rattle.jfs_held_volumes.specs.Laws.{IsFront}
-use Rattle.jfs_held_volumes.proofs.Crash.{crash_law as held_crash}
+use Rattle.jfs_held_maps.specs.mounted_places.specs.held.specs.survival.specs.MapMarks.{map_marks}
+use Rattle.jfs_held_maps.specs.mounted_places.specs.held.specs.survival.specs.halves.specs.Entry.{Happened}
+use Rattle.jfs_held_maps.specs.mounted_places.specs.held.specs.survival.specs.face.specs.Places.{Places, is_map_page}
+use Rattle.jfs_held_maps.specs.mounted_places.specs.held.specs.survival.specs.face.specs.Volume.{face_of}
+use Rattle.jfs_held_maps.specs.mounted_places.specs.held.specs.survival.specs.face.proofs.Owned.{map_matters, fixed_matters}
+use Rattle.jfs_held_maps.specs.mounted_places.specs.held.specs.survival.specs.face.proofs.Whole.{is_face}
+use Rattle.jfs_held_maps.specs.mounted_places.specs.held.specs.survival.specs.recovery.specs.kinds.specs.Images.{HasWholeFiles, IsSameVolume}
+use Rattle.jfs_held_maps.specs.mounted_places.specs.held.specs.survival.specs.recovery.specs.Core.{Core, count, image, matters_at}
+use Rattle.jfs_held_maps.specs.mounted_places.specs.held.specs.survival.specs.recovery.specs.Face.{Face, Pages, IsRedone as IsRedoneOf}
+use Rattle.jfs_held_maps.specs.mounted_places.specs.held.specs.survival.specs.recovery.specs.Sound.{IsLogImage, window as core_window}
+use Rattle.jfs_held_maps.specs.mounted_places.specs.held.specs.survival.specs.recovery.specs.objects.specs.Image.{volume_on}
+use Rattle.jfs_held_maps.specs.mounted_places.specs.held.specs.survival.specs.recovery.specs.objects.specs.Objects.{objects}
+use Rattle.jfs_held_maps.specs.mounted_places.specs.held.specs.survival.specs.recovery.specs.objects.specs.Owners.{is_data}
+use Rattle.jfs_held_maps.specs.mounted_places.specs.held.specs.survival.specs.recovery.specs.objects.specs.Readers.{Readers}
+use Rattle.jfs_held_maps.specs.mounted_places.specs.held.specs.survival.specs.recovery.specs.objects.specs.Volume.{Volume}
+use Rattle.jfs_held_maps.specs.mounted_places.specs.held.specs.survival.specs.recovery.proofs.Redo.{always_recovers, size_left}
+use Rattle.jfs_held_maps.specs.mounted_places.specs.held.specs.survival.proofs.Changes.{counted}
+use Rattle.jfs_held_maps.specs.mounted_places.specs.held.specs.Held.{Held, IsHeld}
+use Rattle.jfs_held_maps.specs.mounted_places.specs.held.specs.Laws.{IsFront}
+use Rattle.jfs_held_maps.specs.mounted_places.specs.held.proofs.Crash.{crash_law as held_crash}
 use Rattle.jfs_held_maps.specs.Maps.{KeepsMaps}
 use Rattle.jfs_held_maps.specs.mounted_places.specs.Mounted.{SetsPast, mount_of}
 use Rattle.jfs_held_maps.specs.mounted_places.specs.Places.{places_of}
 use Rattle.jfs_redo.specs.Log.{AreCommitted}
-use Rattle.jfs_redo.specs.Partly.{MapsStandApart}
+use Rattle.jfs_redo.specs.Partly.{IsPartlyRedone, MapsStandApart}
 use Rattle.jfs_redo.specs.Redo.{IsRedone, IsRefusal, RedoIs}
 use Rattle.jfs_redo.specs.declared.error.RedoError.{RedoError}
 use Rattle.jfs_redo.specs.declared.error.RedoError.TheVariants.{Disk, ForeignLog, BadLog, BadImage, Memory}
@@ -52,6 +54,7 @@ use Rattle.jfs_redone_volumes.proofs.Redone.{redone_law}
 use Rattle.jfs_redone_volumes.proofs.Superblock.{superblock_law}
 use Rattle.jfs_crashes_redone.specs.Crashed.{HasCrashed, IsRedoneToVolume, CrashedLaw}
 use Rattle.jfs_crashes_redone.proofs.Can.{apart, can}
+use Rattle.jfs_crashes_redone.proofs.Data.{data_stays}
 use Rattle.jfs_crashes_redone.proofs.Facts.{AreFacts}
 use Rattle.jfs_crashes_redone.proofs.Lists.{all_committed}
 use Rattle.jfs_crashes_redone.proofs.Places as found
@@ -188,6 +191,12 @@ module _ (s : Super) (mounted : Pages) (x : Held) (old : Image) (held : IsHeld (
   by_txs : (others : List (List Edit)) (new : Image) → AreCommitted s.logpxd.len (blocks_of s) (drop s.logpxd.addr old) others → IsRedone s others old new → IsRedone s txs old new
   by_txs others new is is_redone = subst (λ (all : List (List Edit)). IsRedone s all old new) (is_txs others is) is_redone
 
+  file_data : (others : List (List Edit)) (new : Image) → AreCommitted s.logpxd.len (blocks_of s) (drop s.logpxd.addr old) others → IsPartlyRedone s others old new ⊎ IsRedone s others old new
+      → (k b : ℕ) → 0 < is_data r (objects r (x.volumes n) k) b → page_of new b ≡ page_of old b
+  file_data others new is either k b some =
+      data_stays s pl core left old facts c n log txs same (x.volumes n) (held.images n low).sound (held.images n low).shows k b some new
+      (subst (λ (all : List (List Edit)). IsPartlyRedone s all old new ⊎ IsRedone s all old new) (is_txs others is) either)
+
   unbroken_maps : broken_maps (subject_of s (page_of old)) ≡ None
   unbroken_maps = unbroken s pl core left old facts c n log
 
@@ -211,6 +220,7 @@ module _ (s : Super) (mounted : Pages) (x : Held) (old : Image) (held : IsHeld (
     redone = λ others new is is_redone sizes number. is_volume new (by_txs others new is is_redone) sizes number;
     files = λ others new is is_redone sizes number. new_files new (by_txs others new is is_redone) sizes number;
     past = λ others new is is_redone sizes number. new_past new (by_txs others new is is_redone) sizes number;
+    file_data = file_data;
   }
 
 pub crashed_law : CrashedLaw

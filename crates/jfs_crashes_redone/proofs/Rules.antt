@@ -21,16 +21,16 @@ use Rattle.jfs_left_maps.specs.Items.{IsExtent, HasFours, IsOfHistory}
 use Rattle.jfs_left_maps.proofs.Items.{fours_law, items_law}
 use Rattle.jfs_held_maps.proofs.Extents.{extent_read, fits, four_fits}
 use Rattle.jfs_held_maps.proofs.Places.{used_within}
-use Rattle.jfs_held_volumes.specs.image_volumes.proofs.Read.{extents_are}
-use Rattle.jfs_held_volumes.specs.survival.specs.MapMarks.{map_marks}
-use Rattle.jfs_held_volumes.specs.survival.specs.face.specs.Items.{places, place_of, extent_by}
-use Rattle.jfs_held_volumes.specs.survival.specs.face.specs.Mounted.{places_on, HasMapPages}
-use Rattle.jfs_held_volumes.specs.survival.specs.face.specs.Places.{Places}
-use Rattle.jfs_held_volumes.specs.survival.specs.face.specs.Volume.{items_on}
-use Rattle.jfs_held_volumes.specs.survival.specs.recovery.specs.Core.{Core, count, image}
-use Rattle.jfs_held_volumes.specs.survival.specs.recovery.specs.Face.{Pages, Value}
-use Rattle.jfs_held_volumes.specs.survival.specs.recovery.specs.Face.Item.{ExtentPlace}
-use Rattle.jfs_held_volumes.specs.survival.specs.recovery.specs.Sound.{IsLogImage}
+use Rattle.jfs_held_maps.specs.mounted_places.specs.held.specs.image_volumes.proofs.Read.{extents_are}
+use Rattle.jfs_held_maps.specs.mounted_places.specs.held.specs.survival.specs.MapMarks.{map_marks}
+use Rattle.jfs_held_maps.specs.mounted_places.specs.held.specs.survival.specs.face.specs.Items.{places, place_of, extent_by}
+use Rattle.jfs_held_maps.specs.mounted_places.specs.held.specs.survival.specs.face.specs.Mounted.{places_on, HasMapPages}
+use Rattle.jfs_held_maps.specs.mounted_places.specs.held.specs.survival.specs.face.specs.Places.{Places}
+use Rattle.jfs_held_maps.specs.mounted_places.specs.held.specs.survival.specs.face.specs.Volume.{items_on}
+use Rattle.jfs_held_maps.specs.mounted_places.specs.held.specs.survival.specs.recovery.specs.Core.{Core, count, image}
+use Rattle.jfs_held_maps.specs.mounted_places.specs.held.specs.survival.specs.recovery.specs.Face.{Pages, Value}
+use Rattle.jfs_held_maps.specs.mounted_places.specs.held.specs.survival.specs.recovery.specs.Face.Item.{ExtentPlace}
+use Rattle.jfs_held_maps.specs.mounted_places.specs.held.specs.survival.specs.recovery.specs.Sound.{IsLogImage}
 use Rattle.jfs_redo.specs.mount_rules.specs.Mount.{place, covered, iags, extent_at, fits_extent, fitting, map_rows, broken_maps}
 use Rattle.jfs_redo.specs.mount_rules.specs.Subject.{Subject, subject_of}
 use Rattle.jfs_redo.specs.mount_rules.proofs.Passed.{prefix_is}

@@ -12,13 +12,13 @@ use Rattle.jfs_shown.specs.objects.specs.Contents.{block_of}
 use Rattle.jfs_shown.specs.objects.specs.Image.{file_extents, volume_on}
 use Rattle.jfs_shown.specs.objects.specs.Owners.{IsSound}
 use Rattle.jfs_shown.specs.objects.specs.Readers.{Readers}
-use Rattle.jfs_held_volumes.specs.image_volumes.proofs.Read.{file_page_is}
-use Rattle.jfs_held_volumes.specs.survival.specs.face.specs.MapPages.{IsCanonicalPage, taken_by}
-use Rattle.jfs_held_volumes.specs.survival.specs.face.specs.Places.{Places, is_map_page}
-use Rattle.jfs_held_volumes.specs.survival.specs.face.specs.Recovered.{IsVolumeAt}
-use Rattle.jfs_held_volumes.specs.survival.specs.face.proofs.Reading.{block_page}
-use Rattle.jfs_held_volumes.specs.survival.specs.recovery.specs.Face.{Pages, Item, Value}
-use Rattle.jfs_held_volumes.specs.survival.specs.recovery.specs.kinds.specs.Images.{HasWholeFiles}
+use Rattle.jfs_held_maps.specs.mounted_places.specs.held.specs.image_volumes.proofs.Read.{file_page_is}
+use Rattle.jfs_held_maps.specs.mounted_places.specs.held.specs.survival.specs.face.specs.MapPages.{IsCanonicalPage, taken_by}
+use Rattle.jfs_held_maps.specs.mounted_places.specs.held.specs.survival.specs.face.specs.Places.{Places, is_map_page}
+use Rattle.jfs_held_maps.specs.mounted_places.specs.held.specs.survival.specs.face.specs.Recovered.{IsVolumeAt}
+use Rattle.jfs_held_maps.specs.mounted_places.specs.held.specs.survival.specs.face.proofs.Reading.{block_page}
+use Rattle.jfs_held_maps.specs.mounted_places.specs.held.specs.survival.specs.recovery.specs.Face.{Pages, Item, Value}
+use Rattle.jfs_held_maps.specs.mounted_places.specs.held.specs.survival.specs.recovery.specs.kinds.specs.Images.{HasWholeFiles}
 use Rattle.jfs_held_maps.specs.mounted_places.specs.Mounted.{SetsPast}
 use Rattle.jfs_held_maps.specs.mounted_places.specs.Places.{groups_of, places_of}
 use Rattle.jfs_held_maps.specs.mounted_places.proofs.Places.{in_file}

@@ -15,7 +15,7 @@ use Rattle.jfs_log_readings.specs.Readings.{committed_by, IsUnbroken}
 use Rattle.jfs_log_readings.proofs.Found.{found_law}
 use Rattle.jfs_log_readings.proofs.Readings.{reading_law, unbroken_law}
 use Rattle.jfs_redo.specs.Log.{AreCommitted}
-use Rattle.jfs_held_volumes.specs.survival.specs.halves.specs.Half.{Halves}
+use Rattle.jfs_held_maps.specs.mounted_places.specs.held.specs.survival.specs.halves.specs.Half.{Halves}
 use Rattle.jfs_crashes_redone.specs.Crashed.{IsLogLeft, HasCrashed}
 
 window_of : (ring blocks : ℕ) (log : Image) (both : Halves) → IsLogOfHalves ring blocks both → IsLogLeft ring both log → CommitsWindow ring blocks log both

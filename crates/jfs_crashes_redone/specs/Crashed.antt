@@ -14,16 +14,18 @@ use Rattle.jfs_records.specs.logpages.specs.Ring.{ReadsPrefix}
 use Rattle.jfs_records.specs.logpages.specs.declared.last.Last.{Last}
 use Rattle.jfs_log_window.specs.Window.{IsLogOfHalves, stable_text, group_text, group_ends}
 use Rattle.jfs_redo.specs.Log.{AreCommitted}
-use Rattle.jfs_redo.specs.Partly.{MapsStandApart}
+use Rattle.jfs_redo.specs.Partly.{IsPartlyRedone, MapsStandApart}
 use Rattle.jfs_redo.specs.Redo.{IsRedone, IsRefusal, RedoIs}
 use Rattle.jfs_redo.specs.declared.error.RedoError.{RedoError}
 use Rattle.jfs_redo.specs.mount_rules.specs.Mount.{broken_maps}
 use Rattle.jfs_redo.specs.mount_rules.specs.Subject.{subject_of}
-use Rattle.jfs_held_volumes.specs.survival.specs.halves.specs.Half.{Halves, low_in}
-use Rattle.jfs_held_volumes.specs.survival.specs.recovery.specs.Face.{Pages}
-use Rattle.jfs_held_volumes.specs.survival.specs.recovery.specs.objects.specs.Image.{volume_on}
-use Rattle.jfs_held_volumes.specs.survival.specs.recovery.specs.kinds.specs.Images.{HasWholeFiles, IsSameVolume}
-use Rattle.jfs_held_volumes.specs.Held.{Mount, Held, IsHeld}
+use Rattle.jfs_held_maps.specs.mounted_places.specs.held.specs.survival.specs.halves.specs.Half.{Halves, low_in}
+use Rattle.jfs_held_maps.specs.mounted_places.specs.held.specs.survival.specs.recovery.specs.Face.{Pages}
+use Rattle.jfs_held_maps.specs.mounted_places.specs.held.specs.survival.specs.recovery.specs.objects.specs.Image.{volume_on}
+use Rattle.jfs_held_maps.specs.mounted_places.specs.held.specs.survival.specs.recovery.specs.objects.specs.Objects.{objects}
+use Rattle.jfs_held_maps.specs.mounted_places.specs.held.specs.survival.specs.recovery.specs.objects.specs.Owners.{is_data}
+use Rattle.jfs_held_maps.specs.mounted_places.specs.held.specs.survival.specs.recovery.specs.kinds.specs.Images.{HasWholeFiles, IsSameVolume}
+use Rattle.jfs_held_maps.specs.mounted_places.specs.held.specs.Held.{Mount, Held, IsHeld}
 use Rattle.jfs_held_maps.specs.Maps.{KeepsMaps}
 use Rattle.jfs_held_maps.specs.mounted_places.specs.Mounted.{SetsPast, mount_of}
 use Rattle.jfs_held_maps.specs.mounted_places.specs.Places.{places_of}
@@ -66,6 +68,9 @@ pub record IsRedoneToVolume (s : Super) (m : Mount) (x : Held) (old : Image) : T
   pub files : (txs : List (List Edit)) (new : Image) → AreCommitted s.logpxd.len (blocks_of s) (drop s.logpxd.addr old) txs → IsRedone s txs old new → ArePages (length new) new → length new ≡ length old → HasWholeFiles m.readers (page_of new)
   pub past : (txs : List (List Edit)) (new : Image) → AreCommitted s.logpxd.len (blocks_of s) (drop s.logpxd.addr old) txs → IsRedone s txs old new → ArePages (length new) new → length new ≡ length old
       → SetsPast (places_of s (page_of new)) (page_of new)
+  -- Redo writes no block that holds file data in the volume that it makes: at each moment of it, and once it is done, such a block is as the crash left it.
+  pub file_data : (txs : List (List Edit)) (left : Image) → AreCommitted s.logpxd.len (blocks_of s) (drop s.logpxd.addr old) txs → IsPartlyRedone s txs old left ⊎ IsRedone s txs old left
+      → (k b : ℕ) → 0 < is_data m.readers (objects m.readers (x.volumes n) k) b → page_of left b ≡ page_of old b
 
 abbrev pub CrashedLaw : Type 0
 CrashedLaw = (s : Super) (pages : Pages) (x : Held) (old : Image) → IsHeld (mount_of s pages) x → KeepsMaps (mount_of s pages) x → HasCrashed s x.both old → IsRedoneToVolume s (mount_of s pages) x old

@@ -3,7 +3,7 @@
 ghost use Rattle.std.specs.Prelude.{◌≡◌, ◌≢◌, ◌<◌, ◌≤◌, ◌+◌, ◌-◌, ◌^◌, [], ◌∷◌, ◌++◌, ℕ, List, length, set, take, drop, min, OnOk, OnErr, IfOk, IfErr};
 ghost use Rattle.jfs_disk.specs.Image.{Image, page_of, ArePages};
 ghost use Rattle.jfs_disk.specs.Crash.{DiskState, IsCrashImage, seen_of, last_of, written, settled, TearsPage, LeavesTorn};
-ghost use Rattle.jfs_disk.specs.Cut.{lows_of, highs_of};
+ghost use Rattle.jfs_disk.specs.Cut.{lows_of, highs_of, joined};
 ghost use Rattle.jfs_disk.specs.Fault.{HasCause};
 
 use crate::page::Page;
@@ -130,7 +130,10 @@ pub trait Disk: Sized {
         ensures image { tells → image result ≡ image low ++ image high }
 
         // The parts' crashes are apart: what may be left of the disk is what may be left of both.
-        ensures state { tells_crashes → last_of (past result) ≡ last_of (past low) ++ last_of (past high) };
+        ensures state { tells_crashes → last_of (past result) ≡ last_of (past low) ++ last_of (past high) }
+
+        // It has had the low part's states, and then the high part's.
+        ensures past { tells_crashes → past result ≡ joined (past low) (past high) };
 
     /// There is one page for each number, and each has 4,096 bytes.
     ghost has_pages: { (disk : Self) → tells → ArePages (page_count disk) (image disk) };

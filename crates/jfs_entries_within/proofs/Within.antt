@@ -7,22 +7,22 @@ use Rattle.jfs_bits.specs.declared.rule.PageKind.{PageKind}
 use Rattle.jfs_ranges.specs.declared.edit.Edit.{Edit}
 use Rattle.jfs_ranges.specs.declared.edit.Edit.TheVariants.{Lines, NoRedo, Alloc, Free}
 use Rattle.jfs_ranges.specs.Apply.{place_of_line, touches_edit, touches_tx}
-use Rattle.jfs_marks.specs.imap.specs.Inodes.{Inodes}
-use Rattle.jfs_marks.specs.records.specs.Redo.{is_noredo, closes_in}
-use Rattle.jfs_marks.specs.records.specs.declared.note.Note.{Note}
-use Rattle.jfs_marks.specs.records.specs.Records.{noted}
-use Rattle.jfs_marks.specs.records.specs.Limits.{AreLines, IsLoggable}
-use Rattle.jfs_marks.specs.objects.specs.Owners.{run_has}
-use Rattle.jfs_marks.specs.steps.specs.After.{is_extent, place_in, four_from, takes}
-use Rattle.jfs_marks.specs.declared.founded.Founded.{Founded}
-use Rattle.jfs_marks.specs.declared.founded.NewExtent.{NewExtent}
-use Rattle.jfs_marks.specs.declared.founded.Founded.TheVariants.{Nothing, One, Several}
-use Rattle.jfs_marks.specs.Founded.{and_extent, founded_with, founded_in}
-use Rattle.jfs_marks.specs.Changes.{tx_changes}
-use Rattle.jfs_marks.specs.declared.marks.InodeMarks.{InodeMarks}
-use Rattle.jfs_marks.proofs.Fitted.{IsFoundedAs, says}
+use Rattle.jfs_entered.specs.marks.specs.imap.specs.Inodes.{Inodes}
+use Rattle.jfs_entered.specs.marks.specs.records.specs.Redo.{is_noredo, closes_in}
+use Rattle.jfs_entered.specs.marks.specs.records.specs.declared.note.Note.{Note}
+use Rattle.jfs_entered.specs.marks.specs.records.specs.Records.{noted}
+use Rattle.jfs_entered.specs.marks.specs.records.specs.Limits.{AreLines, IsLoggable}
+use Rattle.jfs_entered.specs.marks.specs.objects.specs.Owners.{run_has}
+use Rattle.jfs_entered.specs.marks.specs.steps.specs.After.{is_extent, place_in, four_from, takes}
+use Rattle.jfs_entered.specs.marks.specs.declared.founded.Founded.{Founded}
+use Rattle.jfs_entered.specs.marks.specs.declared.founded.NewExtent.{NewExtent}
+use Rattle.jfs_entered.specs.marks.specs.declared.founded.Founded.TheVariants.{Nothing, One, Several}
+use Rattle.jfs_entered.specs.marks.specs.Founded.{and_extent, founded_with, founded_in}
+use Rattle.jfs_entered.specs.marks.specs.Changes.{tx_changes}
+use Rattle.jfs_entered.specs.marks.specs.declared.marks.InodeMarks.{InodeMarks}
+use Rattle.jfs_entered.specs.marks.proofs.Fitted.{IsFoundedAs, says}
 use Rattle.jfs_entered.proofs.Extents.{are_short}
-use Rattle.jfs_face.specs.Marks.{any_puts}
+use Rattle.jfs_canonical_maps.specs.face.specs.Marks.{any_puts}
 use Rattle.jfs_entries_within.specs.Within.{PartLaw, WithinLaw}
 
 -- ---- pages

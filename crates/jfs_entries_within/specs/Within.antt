@@ -2,16 +2,16 @@
 use Rattle.std.specs.Prelude.{◌≡◌, ◌≤◌, ℕ, false, List, length}
 use Rattle.jfs_ranges.specs.declared.edit.Edit.{Edit}
 use Rattle.jfs_ranges.specs.Apply.{touches_tx}
-use Rattle.jfs_marks.specs.imap.specs.Inodes.{Inodes}
-use Rattle.jfs_marks.specs.records.specs.Redo.{closes_in}
-use Rattle.jfs_marks.specs.records.specs.declared.note.Note.{Note}
-use Rattle.jfs_marks.specs.data_steps.specs.declared.pages.DataPage.{DataPage}
-use Rattle.jfs_marks.specs.declared.marks.InodeMarks.{InodeMarks}
-use Rattle.jfs_marks.specs.declared.marking.Marking.TheVariants.{Fits}
-use Rattle.jfs_marks.specs.Marking.{AreMarksOf}
+use Rattle.jfs_entered.specs.marks.specs.imap.specs.Inodes.{Inodes}
+use Rattle.jfs_entered.specs.marks.specs.records.specs.Redo.{closes_in}
+use Rattle.jfs_entered.specs.marks.specs.records.specs.declared.note.Note.{Note}
+use Rattle.jfs_entered.specs.marks.specs.data_steps.specs.declared.pages.DataPage.{DataPage}
+use Rattle.jfs_entered.specs.marks.specs.declared.marks.InodeMarks.{InodeMarks}
+use Rattle.jfs_entered.specs.marks.specs.declared.marking.Marking.TheVariants.{Fits}
+use Rattle.jfs_entered.specs.marks.specs.Marking.{AreMarksOf}
 use Rattle.jfs_entered.specs.Marked.{AreLoggable}
-use Rattle.jfs_face.specs.Places.{Places}
-use Rattle.jfs_face.specs.Items.{places}
+use Rattle.jfs_canonical_maps.specs.face.specs.Places.{Places}
+use Rattle.jfs_canonical_maps.specs.face.specs.Items.{places}
 use Rattle.jfs_canonical_maps.specs.Laws.{StaysWithin}
 
 -- no page from the end of the file system part on

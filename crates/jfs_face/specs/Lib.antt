@@ -8,3 +8,6 @@ pub mod Mounted
 pub mod Recovered
 pub mod Redo
 pub mod Laws
+-- libraries below, passed on
+pub use Rattle.jfs_recovery as recovery
+pub use Rattle.jfs_steps as steps

@@ -1,11 +1,11 @@
 -- A run of changes, and a crash at any moment of it.
 use Rattle.std.proofs.Common.{ℕ, zero, suc, List, [], ◌∷◌, take, refl, ◌∙◌, arith}
-use Rattle.jfs_survival.specs.recovery.specs.objects.specs.Readers.{Readers}
-use Rattle.jfs_survival.specs.recovery.specs.objects.specs.Volume.{Volume}
-use Rattle.jfs_survival.specs.recovery.specs.kinds.specs.Images.{IsSameVolume}
-use Rattle.jfs_survival.specs.MapMarks.{map_marks}
-use Rattle.jfs_survival.proofs.Changes.{counted}
-use Rattle.jfs_survival.proofs.Crashes.{crash_law as crash_of_halves}
+use Rattle.jfs_image_volumes.specs.survival.specs.recovery.specs.objects.specs.Readers.{Readers}
+use Rattle.jfs_image_volumes.specs.survival.specs.recovery.specs.objects.specs.Volume.{Volume}
+use Rattle.jfs_image_volumes.specs.survival.specs.recovery.specs.kinds.specs.Images.{IsSameVolume}
+use Rattle.jfs_image_volumes.specs.survival.specs.MapMarks.{map_marks}
+use Rattle.jfs_image_volumes.specs.survival.proofs.Changes.{counted}
+use Rattle.jfs_image_volumes.specs.survival.proofs.Crashes.{crash_law as crash_of_halves}
 use Rattle.jfs_held_volumes.specs.Held.{Mount, Held, IsHeld, face_at}
 use Rattle.jfs_held_volumes.specs.Changes.{next, Made, after, AllMay}
 use Rattle.jfs_held_volumes.specs.Laws.{RunLaw, SurvivesCrashes, CrashLaw}

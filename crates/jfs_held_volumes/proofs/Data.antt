@@ -1,19 +1,19 @@
 -- What leaves an image the volume's: data, and whatever stands in blocks that aren't in use.
 use Rattle.std.proofs.Common.{◌≡◌, ◌≢◌, ◌⊎◌, ◌<◌, nat_lt, not, ℕ, Bool, true, false, true≢false, if◌then◌else◌, List, Option, Some, None, is_some, refl, sym, ap, ◌∙◌, inl, inr, arith}
 use Rattle.std.proofs.lemmas.Bool.{cases_eq, ne_eqb, and_parts, ltb-true}
-use Rattle.jfs_survival.specs.recovery.specs.objects.specs.Readers.{Readers}
-use Rattle.jfs_survival.specs.recovery.specs.objects.specs.Volume.{Volume}
-use Rattle.jfs_survival.specs.recovery.specs.objects.specs.Objects.{Object, objects}
-use Rattle.jfs_survival.specs.recovery.specs.objects.specs.Owners.{owners, bit, data_held, is_data, IsSound}
-use Rattle.jfs_survival.specs.recovery.specs.objects.specs.Changes.{WritesData}
-use Rattle.jfs_survival.specs.recovery.specs.kinds.specs.Owner.{Owner, owner_of, is_logged, is_regular_file, has_data}
-use Rattle.jfs_survival.specs.recovery.specs.kinds.specs.Owner.Owner.{Area}
-use Rattle.jfs_survival.specs.recovery.specs.kinds.specs.Laws.{HasPlaces, KeepsLogged, HasSameOwners, HasObjects}
-use Rattle.jfs_survival.specs.recovery.specs.kinds.proofs.Edits.{edit_law}
-use Rattle.jfs_survival.specs.recovery.specs.kinds.proofs.Logged.{logged_law}
-use Rattle.jfs_survival.specs.recovery.specs.kinds.proofs.Single.{has_owners as one_owner}
-use Rattle.jfs_survival.specs.recovery.specs.Face.{Pages}
-use Rattle.jfs_survival.specs.face.specs.Places.{is_fixed_page, is_map_page}
+use Rattle.jfs_image_volumes.specs.survival.specs.recovery.specs.objects.specs.Readers.{Readers}
+use Rattle.jfs_image_volumes.specs.survival.specs.recovery.specs.objects.specs.Volume.{Volume}
+use Rattle.jfs_image_volumes.specs.survival.specs.recovery.specs.objects.specs.Objects.{Object, objects}
+use Rattle.jfs_image_volumes.specs.survival.specs.recovery.specs.objects.specs.Owners.{owners, bit, data_held, is_data, IsSound}
+use Rattle.jfs_image_volumes.specs.survival.specs.recovery.specs.objects.specs.Changes.{WritesData}
+use Rattle.jfs_image_volumes.specs.survival.specs.recovery.specs.kinds.specs.Owner.{Owner, owner_of, is_logged, is_regular_file, has_data}
+use Rattle.jfs_image_volumes.specs.survival.specs.recovery.specs.kinds.specs.Owner.Owner.{Area}
+use Rattle.jfs_image_volumes.specs.survival.specs.recovery.specs.kinds.specs.Laws.{HasPlaces, KeepsLogged, HasSameOwners, HasObjects}
+use Rattle.jfs_image_volumes.specs.survival.specs.recovery.specs.kinds.proofs.Edits.{edit_law}
+use Rattle.jfs_image_volumes.specs.survival.specs.recovery.specs.kinds.proofs.Logged.{logged_law}
+use Rattle.jfs_image_volumes.specs.survival.specs.recovery.specs.kinds.proofs.Single.{has_owners as one_owner}
+use Rattle.jfs_image_volumes.specs.survival.specs.recovery.specs.Face.{Pages}
+use Rattle.jfs_image_volumes.specs.survival.specs.face.specs.Places.{is_fixed_page, is_map_page}
 use Rattle.jfs_image_volumes.proofs.Objects.{has_counts}
 use Rattle.jfs_held_volumes.specs.Held.{Mount, IsImageAt}
 use Rattle.jfs_held_volumes.specs.Changes.{TakesData, with_page}

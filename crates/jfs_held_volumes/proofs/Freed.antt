@@ -5,9 +5,9 @@ use Rattle.std.proofs.lemmas.Bool.Decides.{nat_tests}
 use Rattle.jfs_bits.specs.Bits.{is_in_run}
 use Rattle.jfs_ranges.specs.declared.edit.Edit.{Edit}
 use Rattle.jfs_ranges.specs.declared.edit.Edit.TheVariants.{Lines, NoRedo, Alloc, Free}
-use Rattle.jfs_steps.specs.After.{is_extent, four_from, with_run, without_run, used_after}
-use Rattle.jfs_survival.specs.halves.specs.Marks.{frees, is_freeing}
-use Rattle.jfs_survival.specs.recovery.specs.records.specs.Marks.{has_block, mark_of}
+use Rattle.jfs_image_volumes.specs.survival.specs.face.specs.steps.specs.After.{is_extent, four_from, with_run, without_run, used_after}
+use Rattle.jfs_image_volumes.specs.survival.specs.halves.specs.Marks.{frees, is_freeing}
+use Rattle.jfs_image_volumes.specs.survival.specs.recovery.specs.records.specs.Marks.{has_block, mark_of}
 
 in-block : (first len b : ℕ) → is_in_run first len b ≡ true → (nat_le first b && nat_lt (b - first) len) ≡ true
 in-block first len b h = grind (arith, nat_tests)

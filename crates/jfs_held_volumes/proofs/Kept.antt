@@ -3,35 +3,35 @@ use Rattle.std.proofs.Common.{◌≡◌, ◌≢◌, ◌⊎◌, ◌<◌, ◌≤�
 use Rattle.std.proofs.lemmas.Bool.{cases_Bool, cases_lt, le-leb, lt-leb, cond-true, cond-false}
 use Rattle.std.proofs.lemmas.List.{length_push, get_or_past, length-map, length-set}
 use Rattle.jfs_ranges.specs.Apply.{touches_tx}
-use Rattle.jfs_survival.specs.halves.specs.Entry.{Happened, edits}
-use Rattle.jfs_survival.specs.halves.specs.Half.{Halves, page_in, is_open}
-use Rattle.jfs_survival.specs.halves.specs.Marks.{entered_state}
-use Rattle.jfs_survival.specs.halves.specs.Change.{Enters, Takes, Tells, HandsOut, GoesHome, Tears, Drops, Writes, WriteTears, Stops, LogStops, Syncs, Points, Knows}
-use Rattle.jfs_survival.specs.halves.specs.Both.{BothChange, Changes, GroupIsWritten, GroupFails, Fits, changed}
-use Rattle.jfs_steps.specs.bmap.specs.States.{Blocks, BlockState, Free, Owned, state_of, settled_state}
-use Rattle.jfs_steps.specs.bmap.proofs.States.{changed-length}
-use Rattle.jfs_survival.specs.recovery.specs.objects.specs.Readers.{Readers}
-use Rattle.jfs_survival.specs.recovery.specs.objects.specs.Volume.{Volume}
-use Rattle.jfs_survival.specs.recovery.specs.objects.specs.Owners.{Agrees}
-use Rattle.jfs_survival.specs.recovery.specs.kinds.specs.Owner.{Owner, owner_of}
-use Rattle.jfs_survival.specs.recovery.specs.kinds.proofs.Single.{has_owners as one_owner}
-use Rattle.jfs_survival.specs.recovery.specs.Face.{Face, Pages}
-use Rattle.jfs_survival.specs.recovery.specs.Core.{Core, Step, Done, count, image, owner_at, matters_at, appended, after_steps}
-use Rattle.jfs_survival.specs.recovery.specs.Core.Step.{Write, WriteFails, Take, Home, HomeFails}
-use Rattle.jfs_survival.specs.recovery.specs.crash_core.specs.Step.{synced}
-use Rattle.jfs_survival.specs.recovery.specs.crash_core.proofs.Bounds.{length-marked}
-use Rattle.jfs_survival.specs.recovery.proofs.Kept.{longer_image, last_image}
-use Rattle.jfs_survival.specs.face.specs.Places.{is_map_page}
-use Rattle.jfs_survival.specs.face.proofs.Whole.{is_face}
-use Rattle.jfs_survival.specs.Stands.{IsCoreOf}
-use Rattle.jfs_survival.specs.Busy.{MovesStates}
-use Rattle.jfs_survival.specs.MapMarks.{map_marks}
-use Rattle.jfs_survival.specs.Played.{step_if}
-use Rattle.jfs_survival.proofs.Busy.{states_law}
-use Rattle.jfs_survival.proofs.Changes.{step_is}
-use Rattle.jfs_survival.proofs.Lines.{reads_lines}
-use Rattle.jfs_survival.proofs.Seen.{seen_law}
-use Rattle.jfs_canonical_maps.specs.Images.{after_entry}
+use Rattle.jfs_image_volumes.specs.survival.specs.halves.specs.Entry.{Happened, edits}
+use Rattle.jfs_image_volumes.specs.survival.specs.halves.specs.Half.{Halves, page_in, is_open}
+use Rattle.jfs_image_volumes.specs.survival.specs.halves.specs.Marks.{entered_state}
+use Rattle.jfs_image_volumes.specs.survival.specs.halves.specs.Change.{Enters, Takes, Tells, HandsOut, GoesHome, Tears, Drops, Writes, WriteTears, Stops, LogStops, Syncs, Points, Knows}
+use Rattle.jfs_image_volumes.specs.survival.specs.halves.specs.Both.{BothChange, Changes, GroupIsWritten, GroupFails, Fits, changed}
+use Rattle.jfs_image_volumes.specs.survival.specs.face.specs.steps.specs.bmap.specs.States.{Blocks, BlockState, Free, Owned, state_of, settled_state}
+use Rattle.jfs_image_volumes.specs.survival.specs.face.specs.steps.specs.bmap.proofs.States.{changed-length}
+use Rattle.jfs_image_volumes.specs.survival.specs.recovery.specs.objects.specs.Readers.{Readers}
+use Rattle.jfs_image_volumes.specs.survival.specs.recovery.specs.objects.specs.Volume.{Volume}
+use Rattle.jfs_image_volumes.specs.survival.specs.recovery.specs.objects.specs.Owners.{Agrees}
+use Rattle.jfs_image_volumes.specs.survival.specs.recovery.specs.kinds.specs.Owner.{Owner, owner_of}
+use Rattle.jfs_image_volumes.specs.survival.specs.recovery.specs.kinds.proofs.Single.{has_owners as one_owner}
+use Rattle.jfs_image_volumes.specs.survival.specs.recovery.specs.Face.{Face, Pages}
+use Rattle.jfs_image_volumes.specs.survival.specs.recovery.specs.Core.{Core, Step, Done, count, image, owner_at, matters_at, appended, after_steps}
+use Rattle.jfs_image_volumes.specs.survival.specs.recovery.specs.Core.Step.{Write, WriteFails, Take, Home, HomeFails}
+use Rattle.jfs_image_volumes.specs.survival.specs.recovery.specs.crash_core.specs.Step.{synced}
+use Rattle.jfs_image_volumes.specs.survival.specs.recovery.specs.crash_core.proofs.Bounds.{length-marked}
+use Rattle.jfs_image_volumes.specs.survival.specs.recovery.proofs.Kept.{longer_image, last_image}
+use Rattle.jfs_image_volumes.specs.survival.specs.face.specs.Places.{is_map_page}
+use Rattle.jfs_image_volumes.specs.survival.specs.face.proofs.Whole.{is_face}
+use Rattle.jfs_image_volumes.specs.survival.specs.Stands.{IsCoreOf}
+use Rattle.jfs_image_volumes.specs.survival.specs.Busy.{MovesStates}
+use Rattle.jfs_image_volumes.specs.survival.specs.MapMarks.{map_marks}
+use Rattle.jfs_image_volumes.specs.survival.specs.Played.{step_if}
+use Rattle.jfs_image_volumes.specs.survival.proofs.Busy.{states_law}
+use Rattle.jfs_image_volumes.specs.survival.proofs.Changes.{step_is}
+use Rattle.jfs_image_volumes.specs.survival.proofs.Lines.{reads_lines}
+use Rattle.jfs_image_volumes.specs.survival.proofs.Seen.{seen_law}
+use Rattle.jfs_image_volumes.specs.canonical_maps.specs.Images.{after_entry}
 use Rattle.jfs_image_volumes.specs.Next.{HasNext}
 use Rattle.jfs_image_volumes.proofs.Enters.{gains}
 use Rattle.jfs_image_volumes.proofs.Next.{next_law}

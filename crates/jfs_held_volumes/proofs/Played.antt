@@ -1,31 +1,31 @@
 -- Each change is the steps of the core that it is said to be.
 use Rattle.std.proofs.Common.{◌≡◌, ℕ, Bool, true, false, true≢false, if◌then◌else◌, List, [], ◌∷◌, length, Option, Some, is_some, refl, sym, ap, ◌∙◌, subst, inl, inr, arith}
 use Rattle.jfs_disk.specs.declared.disk.Fault.{Fault}
-use Rattle.jfs_survival.specs.halves.specs.Entry.{edits}
-use Rattle.jfs_survival.specs.halves.specs.Half.{page_in}
-use Rattle.jfs_survival.specs.halves.specs.Change.{Enters, Takes, Tells, HandsOut, GoesHome, Tears, Drops, Writes, WriteTears, Stops, LogStops, Syncs, Points, Knows}
-use Rattle.jfs_survival.specs.halves.specs.Both.{BothChange, Changes, GroupIsWritten, GroupFails, Fits}
-use Rattle.jfs_survival.specs.recovery.specs.objects.specs.Readers.{Readers}
-use Rattle.jfs_survival.specs.recovery.specs.objects.specs.Volume.{Volume}
-use Rattle.jfs_survival.specs.recovery.specs.kinds.specs.Owner.{Owner, owner_of, is_logged}
-use Rattle.jfs_survival.specs.recovery.specs.kinds.specs.Owner.Owner.{Data}
-use Rattle.jfs_survival.specs.recovery.specs.kinds.proofs.Single.{has_owners as one_owner}
-use Rattle.jfs_survival.specs.recovery.specs.kinds.proofs.Stay.{is_free}
-use Rattle.jfs_survival.specs.recovery.specs.Face.{Face}
-use Rattle.jfs_survival.specs.recovery.specs.Core.{count, owner_at, matters_at, IsBusy}
-use Rattle.jfs_survival.specs.recovery.specs.Core.Step.{Write, WriteFails, Home, HomeFails}
-use Rattle.jfs_survival.specs.face.specs.Places.{AreInAreas, is_map_page}
-use Rattle.jfs_survival.specs.face.proofs.Owned.{map_matters}
-use Rattle.jfs_survival.specs.logged.specs.Logged.{logged_in}
-use Rattle.jfs_survival.specs.Entry.{IsSeenBy}
-use Rattle.jfs_survival.specs.MapMarks.{map_marks}
-use Rattle.jfs_survival.specs.Played.{IsFree, IsData, IsPlayed}
-use Rattle.jfs_survival.proofs.Busy.{free_law}
-use Rattle.jfs_survival.proofs.Changes.{counted}
-use Rattle.jfs_survival.proofs.Enters.{enters_law}
-use Rattle.jfs_survival.proofs.Entry.{data_law as may_write}
-use Rattle.jfs_survival.proofs.Seen.{seen_law}
-use Rattle.jfs_canonical_maps.specs.Images.{after_entry}
+use Rattle.jfs_image_volumes.specs.survival.specs.halves.specs.Entry.{edits}
+use Rattle.jfs_image_volumes.specs.survival.specs.halves.specs.Half.{page_in}
+use Rattle.jfs_image_volumes.specs.survival.specs.halves.specs.Change.{Enters, Takes, Tells, HandsOut, GoesHome, Tears, Drops, Writes, WriteTears, Stops, LogStops, Syncs, Points, Knows}
+use Rattle.jfs_image_volumes.specs.survival.specs.halves.specs.Both.{BothChange, Changes, GroupIsWritten, GroupFails, Fits}
+use Rattle.jfs_image_volumes.specs.survival.specs.recovery.specs.objects.specs.Readers.{Readers}
+use Rattle.jfs_image_volumes.specs.survival.specs.recovery.specs.objects.specs.Volume.{Volume}
+use Rattle.jfs_image_volumes.specs.survival.specs.recovery.specs.kinds.specs.Owner.{Owner, owner_of, is_logged}
+use Rattle.jfs_image_volumes.specs.survival.specs.recovery.specs.kinds.specs.Owner.Owner.{Data}
+use Rattle.jfs_image_volumes.specs.survival.specs.recovery.specs.kinds.proofs.Single.{has_owners as one_owner}
+use Rattle.jfs_image_volumes.specs.survival.specs.recovery.specs.kinds.proofs.Stay.{is_free}
+use Rattle.jfs_image_volumes.specs.survival.specs.recovery.specs.Face.{Face}
+use Rattle.jfs_image_volumes.specs.survival.specs.recovery.specs.Core.{count, owner_at, matters_at, IsBusy}
+use Rattle.jfs_image_volumes.specs.survival.specs.recovery.specs.Core.Step.{Write, WriteFails, Home, HomeFails}
+use Rattle.jfs_image_volumes.specs.survival.specs.face.specs.Places.{AreInAreas, is_map_page}
+use Rattle.jfs_image_volumes.specs.survival.specs.face.proofs.Owned.{map_matters}
+use Rattle.jfs_image_volumes.specs.survival.specs.logged.specs.Logged.{logged_in}
+use Rattle.jfs_image_volumes.specs.survival.specs.Entry.{IsSeenBy}
+use Rattle.jfs_image_volumes.specs.survival.specs.MapMarks.{map_marks}
+use Rattle.jfs_image_volumes.specs.survival.specs.Played.{IsFree, IsData, IsPlayed}
+use Rattle.jfs_image_volumes.specs.survival.proofs.Busy.{free_law}
+use Rattle.jfs_image_volumes.specs.survival.proofs.Changes.{counted}
+use Rattle.jfs_image_volumes.specs.survival.proofs.Enters.{enters_law}
+use Rattle.jfs_image_volumes.specs.survival.proofs.Entry.{data_law as may_write}
+use Rattle.jfs_image_volumes.specs.survival.proofs.Seen.{seen_law}
+use Rattle.jfs_image_volumes.specs.canonical_maps.specs.Images.{after_entry}
 use Rattle.jfs_image_volumes.proofs.Enters.{entered_law}
 use Rattle.jfs_image_volumes.proofs.Next.{in_areas}
 use Rattle.jfs_held_volumes.specs.Held.{Mount, Held, IsHeld, face_at, newest_image}

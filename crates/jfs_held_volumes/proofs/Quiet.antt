@@ -2,21 +2,21 @@
 use Rattle.std.proofs.Common.{◌≡◌, ◌⊎◌, ◌<◌, ◌≤◌, ℕ, suc, Bool, true, false, true≢false, List, [], ◌∷◌, length, slice_index_or, Option, Some, IsSome, refl, sym, ap, ◌∙◌, subst, inl, inr, arith}
 use Rattle.jfs_ranges.specs.declared.edit.Edit.{Edit}
 use Rattle.jfs_ranges.specs.Apply.{touches_tx}
-use Rattle.jfs_steps.specs.bmap.specs.States.{BlockState, Owned, state_of}
-use Rattle.jfs_steps.specs.bmap.proofs.States.{changed-at}
-use Rattle.jfs_survival.specs.halves.specs.Entry.{edits}
-use Rattle.jfs_survival.specs.halves.specs.Marks.{entered_state}
-use Rattle.jfs_survival.specs.halves.specs.Change.{Enters, Takes, Tells, HandsOut, GoesHome, Tears, Drops, Writes, WriteTears, Stops, LogStops, Syncs, Points, Knows}
-use Rattle.jfs_survival.specs.halves.specs.Both.{BothChange, Changes, GroupIsWritten, GroupFails}
-use Rattle.jfs_survival.specs.recovery.specs.records.specs.Redo.{closes_in}
-use Rattle.jfs_survival.specs.recovery.specs.objects.specs.Readers.{Readers}
-use Rattle.jfs_survival.specs.recovery.specs.objects.specs.Volume.{Volume}
-use Rattle.jfs_survival.specs.recovery.specs.kinds.specs.Owner.{Owner}
-use Rattle.jfs_survival.specs.recovery.specs.kinds.proofs.Stay.{is_used}
-use Rattle.jfs_survival.specs.recovery.specs.Lines.{rest_of}
-use Rattle.jfs_survival.specs.face.specs.Places.{is_map_page}
-use Rattle.jfs_survival.specs.logged.specs.Logged.{LogsPage}
-use Rattle.jfs_survival.specs.Lists.{IsPlain}
+use Rattle.jfs_image_volumes.specs.survival.specs.face.specs.steps.specs.bmap.specs.States.{BlockState, Owned, state_of}
+use Rattle.jfs_image_volumes.specs.survival.specs.face.specs.steps.specs.bmap.proofs.States.{changed-at}
+use Rattle.jfs_image_volumes.specs.survival.specs.halves.specs.Entry.{edits}
+use Rattle.jfs_image_volumes.specs.survival.specs.halves.specs.Marks.{entered_state}
+use Rattle.jfs_image_volumes.specs.survival.specs.halves.specs.Change.{Enters, Takes, Tells, HandsOut, GoesHome, Tears, Drops, Writes, WriteTears, Stops, LogStops, Syncs, Points, Knows}
+use Rattle.jfs_image_volumes.specs.survival.specs.halves.specs.Both.{BothChange, Changes, GroupIsWritten, GroupFails}
+use Rattle.jfs_image_volumes.specs.survival.specs.recovery.specs.records.specs.Redo.{closes_in}
+use Rattle.jfs_image_volumes.specs.survival.specs.recovery.specs.objects.specs.Readers.{Readers}
+use Rattle.jfs_image_volumes.specs.survival.specs.recovery.specs.objects.specs.Volume.{Volume}
+use Rattle.jfs_image_volumes.specs.survival.specs.recovery.specs.kinds.specs.Owner.{Owner}
+use Rattle.jfs_image_volumes.specs.survival.specs.recovery.specs.kinds.proofs.Stay.{is_used}
+use Rattle.jfs_image_volumes.specs.survival.specs.recovery.specs.Lines.{rest_of}
+use Rattle.jfs_image_volumes.specs.survival.specs.face.specs.Places.{is_map_page}
+use Rattle.jfs_image_volumes.specs.survival.specs.logged.specs.Logged.{LogsPage}
+use Rattle.jfs_image_volumes.specs.survival.specs.Lists.{IsPlain}
 use Rattle.jfs_image_volumes.specs.Next.{MayFollow}
 use Rattle.jfs_held_volumes.specs.Held.{Mount, Held, IsHeld}
 use Rattle.jfs_held_volumes.specs.Changes.{HasTheSame, MayChange, next}

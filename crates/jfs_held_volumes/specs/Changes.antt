@@ -1,20 +1,20 @@
 -- What a change of the halves has to keep beside fitting, in words of the volume, and the volume after it.
 use Rattle.std.specs.Prelude.{◌≡◌, ◌⊎◌, ◌<◌, ◌==◌, ℕ, true, false, nat_le, if◌then◌else◌, List, [], ◌∷◌, length}
-use Rattle.jfs_survival.specs.halves.specs.Entry.{Happened, edits}
-use Rattle.jfs_survival.specs.halves.specs.Half.{page_in, is_open}
-use Rattle.jfs_survival.specs.halves.specs.Change.{Enters, Takes, Tells, HandsOut, GoesHome, Tears, Drops, Writes, WriteTears, Stops, LogStops, Syncs, Points, Knows}
-use Rattle.jfs_survival.specs.halves.specs.Both.{BothChange, Changes, GroupIsWritten, GroupFails, Fits, changed}
-use Rattle.jfs_steps.specs.bmap.specs.States.{Owned, state_of}
-use Rattle.jfs_survival.specs.recovery.specs.objects.specs.Readers.{Readers}
-use Rattle.jfs_survival.specs.recovery.specs.objects.specs.Volume.{Volume}
-use Rattle.jfs_survival.specs.recovery.specs.objects.specs.Objects.{objects}
-use Rattle.jfs_survival.specs.recovery.specs.kinds.specs.Owner.{has_data}
-use Rattle.jfs_survival.specs.recovery.specs.Core.{Step, count, matters_at, after_steps}
-use Rattle.jfs_survival.specs.recovery.specs.Core.Step.{Write, WriteFails, Append, Take, GroupWrite, Told, Home, HomeFails, LowSync, SyncPoint}
-use Rattle.jfs_survival.specs.face.specs.Places.{is_map_page}
-use Rattle.jfs_survival.specs.logged.specs.Logged.{logged_in}
-use Rattle.jfs_survival.specs.Played.{IsMapHome, MapsAreSynced, step_if}
-use Rattle.jfs_canonical_maps.specs.Images.{after_entry}
+use Rattle.jfs_image_volumes.specs.survival.specs.halves.specs.Entry.{Happened, edits}
+use Rattle.jfs_image_volumes.specs.survival.specs.halves.specs.Half.{page_in, is_open}
+use Rattle.jfs_image_volumes.specs.survival.specs.halves.specs.Change.{Enters, Takes, Tells, HandsOut, GoesHome, Tears, Drops, Writes, WriteTears, Stops, LogStops, Syncs, Points, Knows}
+use Rattle.jfs_image_volumes.specs.survival.specs.halves.specs.Both.{BothChange, Changes, GroupIsWritten, GroupFails, Fits, changed}
+use Rattle.jfs_image_volumes.specs.survival.specs.face.specs.steps.specs.bmap.specs.States.{Owned, state_of}
+use Rattle.jfs_image_volumes.specs.survival.specs.recovery.specs.objects.specs.Readers.{Readers}
+use Rattle.jfs_image_volumes.specs.survival.specs.recovery.specs.objects.specs.Volume.{Volume}
+use Rattle.jfs_image_volumes.specs.survival.specs.recovery.specs.objects.specs.Objects.{objects}
+use Rattle.jfs_image_volumes.specs.survival.specs.recovery.specs.kinds.specs.Owner.{has_data}
+use Rattle.jfs_image_volumes.specs.survival.specs.recovery.specs.Core.{Step, count, matters_at, after_steps}
+use Rattle.jfs_image_volumes.specs.survival.specs.recovery.specs.Core.Step.{Write, WriteFails, Append, Take, GroupWrite, Told, Home, HomeFails, LowSync, SyncPoint}
+use Rattle.jfs_image_volumes.specs.survival.specs.face.specs.Places.{is_map_page}
+use Rattle.jfs_image_volumes.specs.survival.specs.logged.specs.Logged.{logged_in}
+use Rattle.jfs_image_volumes.specs.survival.specs.Played.{IsMapHome, MapsAreSynced, step_if}
+use Rattle.jfs_image_volumes.specs.canonical_maps.specs.Images.{after_entry}
 use Rattle.jfs_image_volumes.specs.Next.{MayFollow}
 use Rattle.jfs_image_volumes.specs.Enters.{KeepsToItsPart}
 use Rattle.jfs_held_volumes.specs.Held.{Mount, Held, face_at, newest_image}

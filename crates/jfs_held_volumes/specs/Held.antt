@@ -1,17 +1,17 @@
 -- A mounted volume between two changes of its halves, and the volumes of its history.
 use Rattle.std.specs.Prelude.{◌≡◌, ◌≤◌, ◌<◌, ℕ, true, length}
 use Rattle.jfs_bits.specs.declared.descriptor.Pxd.{Pxd}
-use Rattle.jfs_survival.specs.halves.specs.Half.{Halves}
-use Rattle.jfs_survival.specs.recovery.specs.objects.specs.Readers.{Readers}
-use Rattle.jfs_survival.specs.recovery.specs.objects.specs.Volume.{Volume}
-use Rattle.jfs_survival.specs.recovery.specs.Face.{Face, Pages}
-use Rattle.jfs_survival.specs.recovery.specs.Core.{Core, count, image}
-use Rattle.jfs_survival.specs.face.specs.Places.{Places, is_map_page}
-use Rattle.jfs_survival.specs.face.specs.Volume.{face_of}
-use Rattle.jfs_survival.specs.Stands.{IsCoreOf}
-use Rattle.jfs_survival.specs.Busy.{HasStates}
-use Rattle.jfs_survival.specs.MapMarks.{map_marks}
-use Rattle.jfs_canonical_maps.specs.Places.{FitMaps}
+use Rattle.jfs_image_volumes.specs.survival.specs.halves.specs.Half.{Halves}
+use Rattle.jfs_image_volumes.specs.survival.specs.recovery.specs.objects.specs.Readers.{Readers}
+use Rattle.jfs_image_volumes.specs.survival.specs.recovery.specs.objects.specs.Volume.{Volume}
+use Rattle.jfs_image_volumes.specs.survival.specs.recovery.specs.Face.{Face, Pages}
+use Rattle.jfs_image_volumes.specs.survival.specs.recovery.specs.Core.{Core, count, image}
+use Rattle.jfs_image_volumes.specs.survival.specs.face.specs.Places.{Places, is_map_page}
+use Rattle.jfs_image_volumes.specs.survival.specs.face.specs.Volume.{face_of}
+use Rattle.jfs_image_volumes.specs.survival.specs.Stands.{IsCoreOf}
+use Rattle.jfs_image_volumes.specs.survival.specs.Busy.{HasStates}
+use Rattle.jfs_image_volumes.specs.survival.specs.MapMarks.{map_marks}
+use Rattle.jfs_image_volumes.specs.canonical_maps.specs.Places.{FitMaps}
 use Rattle.jfs_image_volumes.specs.Next.{IsImageOfVolume}
 
 -- What the superblock and the maps' files said when the volume was mounted: how roots and pages of trees read, the number of blocks, in groups of how many and how many of these, where the second inode table and map stand, and where the maps do.

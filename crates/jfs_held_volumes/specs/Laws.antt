@@ -2,18 +2,18 @@
 use Rattle.std.specs.Prelude.{◌≡◌, ◌≤◌, ℕ, List, [], length, take}
 use Rattle.jfs_disk.specs.Image.{Image}
 use Rattle.jfs_disk.specs.Crash.{IsCrashImage}
-use Rattle.jfs_survival.specs.halves.specs.Entry.{Happened, edits}
-use Rattle.jfs_survival.specs.halves.specs.Half.{low_in}
-use Rattle.jfs_survival.specs.halves.specs.Change.{Enters}
-use Rattle.jfs_survival.specs.halves.specs.Both.{BothChange, Changes, Fits, FitAll}
-use Rattle.jfs_survival.specs.recovery.specs.objects.specs.Volume.{Volume}
-use Rattle.jfs_survival.specs.recovery.specs.objects.specs.Image.{volume_on}
-use Rattle.jfs_survival.specs.recovery.specs.kinds.specs.Images.{IsSameVolume}
-use Rattle.jfs_survival.specs.recovery.specs.Face.{Pages, IsRedone}
-use Rattle.jfs_survival.specs.recovery.specs.Core.{count}
-use Rattle.jfs_survival.specs.recovery.specs.Sound.{IsLogImage, window}
-use Rattle.jfs_survival.specs.Laws.{left_by}
-use Rattle.jfs_survival.specs.Lists.{ArePlain}
+use Rattle.jfs_image_volumes.specs.survival.specs.halves.specs.Entry.{Happened, edits}
+use Rattle.jfs_image_volumes.specs.survival.specs.halves.specs.Half.{low_in}
+use Rattle.jfs_image_volumes.specs.survival.specs.halves.specs.Change.{Enters}
+use Rattle.jfs_image_volumes.specs.survival.specs.halves.specs.Both.{BothChange, Changes, Fits, FitAll}
+use Rattle.jfs_image_volumes.specs.survival.specs.recovery.specs.objects.specs.Volume.{Volume}
+use Rattle.jfs_image_volumes.specs.survival.specs.recovery.specs.objects.specs.Image.{volume_on}
+use Rattle.jfs_image_volumes.specs.survival.specs.recovery.specs.kinds.specs.Images.{IsSameVolume}
+use Rattle.jfs_image_volumes.specs.survival.specs.recovery.specs.Face.{Pages, IsRedone}
+use Rattle.jfs_image_volumes.specs.survival.specs.recovery.specs.Core.{count}
+use Rattle.jfs_image_volumes.specs.survival.specs.recovery.specs.Sound.{IsLogImage, window}
+use Rattle.jfs_image_volumes.specs.survival.specs.Laws.{left_by}
+use Rattle.jfs_image_volumes.specs.survival.specs.Lists.{ArePlain}
 use Rattle.jfs_held_volumes.specs.Held.{Mount, Held, IsHeld, IsImageAt, face_at}
 use Rattle.jfs_held_volumes.specs.Changes.{TakesData, with_page, HasTheSame, LeadsTo, MayChange, next, Made, leaving, after, AllMay}
 

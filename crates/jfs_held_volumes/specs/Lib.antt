@@ -3,6 +3,6 @@ pub mod Held
 pub mod Changes
 pub mod Laws
 -- libraries below, passed on
-pub use Rattle.jfs_canonical_maps as canonical_maps
+pub use Rattle.jfs_image_volumes.specs.canonical_maps as canonical_maps
 pub use Rattle.jfs_image_volumes as image_volumes
-pub use Rattle.jfs_survival as survival
+pub use Rattle.jfs_image_volumes.specs.survival as survival

@@ -2,16 +2,16 @@
 use Rattle.std.proofs.Common.{◌≤◌, ℕ, zero, suc, Bool, List, ◌∙◌, arith}
 use Rattle.jfs_bits.specs.declared.descriptor.Pxd.{Pxd}
 use Rattle.jfs_ranges.specs.declared.edit.Edit.{Edit}
-use Rattle.jfs_recovery.specs.objects.specs.Readers.{Readers}
-use Rattle.jfs_recovery.specs.objects.specs.Volume.{Volume}
-use Rattle.jfs_recovery.specs.kinds.specs.Images.{IsSameVolume}
-use Rattle.jfs_recovery.specs.Face.{Face, IsFace, Pages}
-use Rattle.jfs_recovery.specs.Core.{Core, count, entry, image, after_steps}
-use Rattle.jfs_recovery.specs.Sound.{IsSound}
-use Rattle.jfs_recovery.proofs.Images.{size_image, canonical_image}
-use Rattle.jfs_face.specs.Places.{Places}
-use Rattle.jfs_face.specs.Volume.{face_of}
-use Rattle.jfs_face.proofs.Whole.{is_face}
+use Rattle.jfs_survival.specs.recovery.specs.objects.specs.Readers.{Readers}
+use Rattle.jfs_survival.specs.recovery.specs.objects.specs.Volume.{Volume}
+use Rattle.jfs_survival.specs.recovery.specs.kinds.specs.Images.{IsSameVolume}
+use Rattle.jfs_survival.specs.recovery.specs.Face.{Face, IsFace, Pages}
+use Rattle.jfs_survival.specs.recovery.specs.Core.{Core, count, entry, image, after_steps}
+use Rattle.jfs_survival.specs.recovery.specs.Sound.{IsSound}
+use Rattle.jfs_survival.specs.recovery.proofs.Images.{size_image, canonical_image}
+use Rattle.jfs_survival.specs.face.specs.Places.{Places}
+use Rattle.jfs_survival.specs.face.specs.Volume.{face_of}
+use Rattle.jfs_survival.specs.face.proofs.Whole.{is_face}
 use Rattle.jfs_survival.proofs.Crashes.{crash_law as crash_of_halves}
 use Rattle.jfs_image_volumes.specs.Next.{IsImageOfVolume}
 use Rattle.jfs_image_volumes.specs.Crash.{AreVolumesOf, HistoryLaw, CrashLaw}

@@ -7,11 +7,11 @@ use Rattle.jfs_bits.specs.declared.rule.PageKind.{PageKind}
 use Rattle.jfs_bits.specs.declared.rule.PageKind.TheVariants as kinds
 use Rattle.jfs_ranges.specs.declared.edit.Edit.{Edit}
 use Rattle.jfs_ranges.specs.declared.edit.Edit.TheVariants.{Lines, NoRedo, Alloc, Free}
-use Rattle.jfs_halves.specs.Entry.{edits}
-use Rattle.jfs_halves.specs.Marks.{takes, is_taking}
-use Rattle.jfs_steps.specs.After.{is_extent, four_from, with_run, without_run, used_after}
-use Rattle.jfs_recovery.specs.records.specs.Marks.{has_block, is_new_extent, mark_of}
-use Rattle.jfs_recovery.specs.Core.{count, image}
+use Rattle.jfs_survival.specs.halves.specs.Entry.{edits}
+use Rattle.jfs_survival.specs.halves.specs.Marks.{takes, is_taking}
+use Rattle.jfs_survival.specs.face.specs.steps.specs.After.{is_extent, four_from, with_run, without_run, used_after}
+use Rattle.jfs_survival.specs.recovery.specs.records.specs.Marks.{has_block, is_new_extent, mark_of}
+use Rattle.jfs_survival.specs.recovery.specs.Core.{count, image}
 use Rattle.jfs_survival.proofs.Seen.{seen_law}
 use Rattle.jfs_survival.specs.MapMarks.{map_marks}
 use Rattle.jfs_image_volumes.specs.Enters.{EnteredLaw}

@@ -5,21 +5,21 @@ use Rattle.std.proofs.lemmas.Bool.{and_parts, ltb-true}
 use Rattle.jfs_bits.specs.declared.descriptor.Pxd.{Pxd}
 use Rattle.jfs_ranges.specs.declared.edit.Edit.{Edit}
 use Rattle.jfs_ranges.specs.Apply.{apply_tx}
-use Rattle.jfs_steps.specs.After.{used_after}
-use Rattle.jfs_recovery.specs.objects.specs.Readers.{Readers}
-use Rattle.jfs_recovery.specs.objects.specs.Volume.{Volume}
-use Rattle.jfs_recovery.specs.objects.specs.Image.{volume_on}
-use Rattle.jfs_recovery.specs.objects.specs.Owners.{IsSound}
-use Rattle.jfs_recovery.specs.kinds.specs.Owner.{Owner, is_logged}
-use Rattle.jfs_recovery.specs.kinds.specs.Owner.Owner.{Area}
-use Rattle.jfs_recovery.specs.kinds.proofs.Single.{has_owners}
-use Rattle.jfs_recovery.specs.Face.{Pages, IsStep}
-use Rattle.jfs_recovery.specs.Lines.{rest_of}
-use Rattle.jfs_face.specs.Places.{Places, AreInAreas, is_map_page, is_fixed_page}
-use Rattle.jfs_face.specs.Recovered.{IsVolumeAt}
-use Rattle.jfs_face.specs.Volume.{volume_with, face_of}
-use Rattle.jfs_face.proofs.Mounted.{seen_as_it_is}
-use Rattle.jfs_logged.specs.Logged.{LogsPage, logged_in}
+use Rattle.jfs_survival.specs.face.specs.steps.specs.After.{used_after}
+use Rattle.jfs_survival.specs.recovery.specs.objects.specs.Readers.{Readers}
+use Rattle.jfs_survival.specs.recovery.specs.objects.specs.Volume.{Volume}
+use Rattle.jfs_survival.specs.recovery.specs.objects.specs.Image.{volume_on}
+use Rattle.jfs_survival.specs.recovery.specs.objects.specs.Owners.{IsSound}
+use Rattle.jfs_survival.specs.recovery.specs.kinds.specs.Owner.{Owner, is_logged}
+use Rattle.jfs_survival.specs.recovery.specs.kinds.specs.Owner.Owner.{Area}
+use Rattle.jfs_survival.specs.recovery.specs.kinds.proofs.Single.{has_owners}
+use Rattle.jfs_survival.specs.recovery.specs.Face.{Pages, IsStep}
+use Rattle.jfs_survival.specs.recovery.specs.Lines.{rest_of}
+use Rattle.jfs_survival.specs.face.specs.Places.{Places, AreInAreas, is_map_page, is_fixed_page}
+use Rattle.jfs_survival.specs.face.specs.Recovered.{IsVolumeAt}
+use Rattle.jfs_survival.specs.face.specs.Volume.{volume_with, face_of}
+use Rattle.jfs_survival.specs.face.proofs.Mounted.{seen_as_it_is}
+use Rattle.jfs_survival.specs.logged.specs.Logged.{LogsPage, logged_in}
 use Rattle.jfs_survival.specs.Entry.{ShowsLogged}
 use Rattle.jfs_canonical_maps.specs.Places.{HaveOwnPlaces}
 use Rattle.jfs_canonical_maps.specs.Images.{made_canonical, after_entry}

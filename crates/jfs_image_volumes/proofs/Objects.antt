@@ -1,17 +1,17 @@
 -- A volume that has what the log keeps safe of another, whatever stands in the fixed areas, has its objects and its owners.
 use Rattle.std.proofs.Common.{◌≡◌, ◌≢◌, ◌⊎◌, ◌*◌, ◌==◌, ◌&&◌, ℕ, zero, suc, Bool, true, false, List, length, refl, sym, ap, ◌∙◌, inl, inr, Option, is_some, arith}
 use Rattle.std.proofs.lemmas.Bool.{cases_eq, cases_Bool, eq-eqb, ne_eqb}
-use Rattle.jfs_recovery.specs.objects.specs.Readers.{Readers}
-use Rattle.jfs_recovery.specs.objects.specs.Volume.{Volume, room}
-use Rattle.jfs_recovery.specs.objects.specs.Objects.{Object, objects}
-use Rattle.jfs_recovery.specs.objects.specs.Owners.{owners, holds, extents_have, sum_below, bit, IsSound}
-use Rattle.jfs_recovery.specs.objects.proofs.Sums.{sum_same}
-use Rattle.jfs_recovery.specs.kinds.specs.Owner.{Owner, owner_of, owner_below, owner_in, or_else, is_logged}
-use Rattle.jfs_recovery.specs.kinds.specs.Owner.Owner.{Area, Inodes}
-use Rattle.jfs_recovery.specs.kinds.specs.Laws.{HasObjects, HasSameOwners}
-use Rattle.jfs_recovery.specs.kinds.proofs.Parts.{passed}
-use Rattle.jfs_recovery.specs.kinds.proofs.Stay.{is_free, same_owners}
-use Rattle.jfs_recovery.specs.kinds.proofs.Logged.{logged_law}
+use Rattle.jfs_survival.specs.recovery.specs.objects.specs.Readers.{Readers}
+use Rattle.jfs_survival.specs.recovery.specs.objects.specs.Volume.{Volume, room}
+use Rattle.jfs_survival.specs.recovery.specs.objects.specs.Objects.{Object, objects}
+use Rattle.jfs_survival.specs.recovery.specs.objects.specs.Owners.{owners, holds, extents_have, sum_below, bit, IsSound}
+use Rattle.jfs_survival.specs.recovery.specs.objects.proofs.Sums.{sum_same}
+use Rattle.jfs_survival.specs.recovery.specs.kinds.specs.Owner.{Owner, owner_of, owner_below, owner_in, or_else, is_logged}
+use Rattle.jfs_survival.specs.recovery.specs.kinds.specs.Owner.Owner.{Area, Inodes}
+use Rattle.jfs_survival.specs.recovery.specs.kinds.specs.Laws.{HasObjects, HasSameOwners}
+use Rattle.jfs_survival.specs.recovery.specs.kinds.proofs.Parts.{passed}
+use Rattle.jfs_survival.specs.recovery.specs.kinds.proofs.Stay.{is_free, same_owners}
+use Rattle.jfs_survival.specs.recovery.specs.kinds.proofs.Logged.{logged_law}
 
 -- a volume without its fixed areas: their blocks aren't in use
 abbrev without : Volume → Volume

@@ -7,19 +7,19 @@ use Rattle.jfs_bits.specs.declared.descriptor.Pxd.{Pxd}
 use Rattle.jfs_bits.specs.declared.extent.Xad.{Xad}
 use Rattle.jfs_bits.proofs.Buds.{any_below-at}
 use Rattle.jfs_ranges.specs.declared.edit.Edit.{Edit}
-use Rattle.jfs_steps.specs.bmap.specs.MapFile.{pages_of, is_in_use}
-use Rattle.jfs_recovery.specs.objects.specs.Readers.{Readers}
-use Rattle.jfs_recovery.specs.objects.specs.Contents.{block_of}
-use Rattle.jfs_recovery.specs.objects.specs.Image.{file_extents, iags_on, area_on, volume_on}
-use Rattle.jfs_recovery.specs.objects.proofs.Blocks.{covered}
-use Rattle.jfs_recovery.specs.Face.{Pages, IsStep}
+use Rattle.jfs_survival.specs.face.specs.steps.specs.bmap.specs.MapFile.{pages_of, is_in_use}
+use Rattle.jfs_survival.specs.recovery.specs.objects.specs.Readers.{Readers}
+use Rattle.jfs_survival.specs.recovery.specs.objects.specs.Contents.{block_of}
+use Rattle.jfs_survival.specs.recovery.specs.objects.specs.Image.{file_extents, iags_on, area_on, volume_on}
+use Rattle.jfs_survival.specs.recovery.specs.objects.proofs.Blocks.{covered}
+use Rattle.jfs_survival.specs.recovery.specs.Face.{Pages, IsStep}
 use Rattle.jfs_shown.specs.Laws.{SamePlaces, map_pages}
 use Rattle.jfs_shown.proofs.Places.{keeps_law, files_law}
-use Rattle.jfs_face.specs.Places.{Places, is_block_page, is_inode_page, is_map_page}
-use Rattle.jfs_face.specs.Mounted.{places_on, HasMapPages}
-use Rattle.jfs_face.specs.Recovered.{IsVolumeAt}
-use Rattle.jfs_face.specs.Volume.{face_of}
-use Rattle.jfs_face.proofs.Reading.{inode_page}
+use Rattle.jfs_survival.specs.face.specs.Places.{Places, is_block_page, is_inode_page, is_map_page}
+use Rattle.jfs_survival.specs.face.specs.Mounted.{places_on, HasMapPages}
+use Rattle.jfs_survival.specs.face.specs.Recovered.{IsVolumeAt}
+use Rattle.jfs_survival.specs.face.specs.Volume.{face_of}
+use Rattle.jfs_survival.specs.face.proofs.Reading.{inode_page}
 use Rattle.jfs_image_volumes.specs.Stands.{FixedStay, MapsStandAt, PlacesLaw}
 use Rattle.jfs_image_volumes.proofs.Read.{file_page_is}
 

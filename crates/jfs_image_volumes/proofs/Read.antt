@@ -8,16 +8,16 @@ use Rattle.jfs_bits.specs.Field.{range_of}
 use Rattle.jfs_bits.specs.declared.descriptor.Pxd.{Pxd}
 use Rattle.jfs_bits.proofs.Buds.{any_below-at}
 use Rattle.jfs_iag.specs.Iag.{no_run}
-use Rattle.jfs_steps.specs.bmap.specs.MapFile.{pages_of, is_in_use}
-use Rattle.jfs_recovery.specs.objects.specs.Readers.{Readers}
-use Rattle.jfs_recovery.specs.objects.specs.Contents.{block_of, bytes_at}
-use Rattle.jfs_recovery.specs.objects.specs.Image.{file_extents, file_page, iag_page, is_block_used, extent_place, extent_on, extents_on}
-use Rattle.jfs_recovery.specs.Face.Item.{BlockBit, ExtentPlace}
-use Rattle.jfs_recovery.specs.Face.Value.{InUse}
-use Rattle.jfs_face.specs.Places.{Places, AreInAreas, is_block_page, is_inode_page, is_map_page}
-use Rattle.jfs_face.specs.Items.{home, places, extent_by, no_block, no_extent}
-use Rattle.jfs_face.specs.Mounted.{places_on, HasMapPages}
-use Rattle.jfs_face.specs.Volume.{items_on, volume_with}
+use Rattle.jfs_survival.specs.face.specs.steps.specs.bmap.specs.MapFile.{pages_of, is_in_use}
+use Rattle.jfs_survival.specs.recovery.specs.objects.specs.Readers.{Readers}
+use Rattle.jfs_survival.specs.recovery.specs.objects.specs.Contents.{block_of, bytes_at}
+use Rattle.jfs_survival.specs.recovery.specs.objects.specs.Image.{file_extents, file_page, iag_page, is_block_used, extent_place, extent_on, extents_on}
+use Rattle.jfs_survival.specs.recovery.specs.Face.Item.{BlockBit, ExtentPlace}
+use Rattle.jfs_survival.specs.recovery.specs.Face.Value.{InUse}
+use Rattle.jfs_survival.specs.face.specs.Places.{Places, AreInAreas, is_block_page, is_inode_page, is_map_page}
+use Rattle.jfs_survival.specs.face.specs.Items.{home, places, extent_by, no_block, no_extent}
+use Rattle.jfs_survival.specs.face.specs.Mounted.{places_on, HasMapPages}
+use Rattle.jfs_survival.specs.face.specs.Volume.{items_on, volume_with}
 
 -- ---- map pages are areas
 

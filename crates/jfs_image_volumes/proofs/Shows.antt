@@ -6,20 +6,20 @@ use Rattle.std.proofs.lemmas.List.FromFn.{length-map-range_with_len, get_or-map-
 use Rattle.jfs_ranges.specs.declared.edit.Edit.{Edit}
 use Rattle.jfs_ranges.specs.declared.edit.Edit.TheVariants.{Lines, NoRedo, Alloc, Free}
 use Rattle.jfs_ranges.specs.Apply.{apply_tx}
-use Rattle.jfs_steps.specs.After.{is_extent, place_in, extents_after}
-use Rattle.jfs_recovery.specs.objects.specs.Readers.{Readers}
-use Rattle.jfs_recovery.specs.objects.specs.Volume.{Volume}
-use Rattle.jfs_recovery.specs.objects.specs.Image.{extent_place}
-use Rattle.jfs_recovery.specs.records.specs.Redo.{closes_in}
-use Rattle.jfs_recovery.specs.Face.{Face, IsFace, Pages, Value, byte, lined, items_after, IsStep}
-use Rattle.jfs_recovery.specs.Face.Item.{ExtentPlace}
-use Rattle.jfs_recovery.proofs.Images.{closed_item}
-use Rattle.jfs_face.specs.Places.{Places, AreInAreas}
-use Rattle.jfs_face.specs.Items.{places, place_of, extent_by}
-use Rattle.jfs_face.specs.Volume.{items_on, volume_with, face_of}
-use Rattle.jfs_face.proofs.InRow.{redo_law}
-use Rattle.jfs_face.proofs.Whole.{is_face}
-use Rattle.jfs_logged.specs.Logged.{logged_in}
+use Rattle.jfs_survival.specs.face.specs.steps.specs.After.{is_extent, place_in, extents_after}
+use Rattle.jfs_survival.specs.recovery.specs.objects.specs.Readers.{Readers}
+use Rattle.jfs_survival.specs.recovery.specs.objects.specs.Volume.{Volume}
+use Rattle.jfs_survival.specs.recovery.specs.objects.specs.Image.{extent_place}
+use Rattle.jfs_survival.specs.recovery.specs.records.specs.Redo.{closes_in}
+use Rattle.jfs_survival.specs.recovery.specs.Face.{Face, IsFace, Pages, Value, byte, lined, items_after, IsStep}
+use Rattle.jfs_survival.specs.recovery.specs.Face.Item.{ExtentPlace}
+use Rattle.jfs_survival.specs.recovery.proofs.Images.{closed_item}
+use Rattle.jfs_survival.specs.face.specs.Places.{Places, AreInAreas}
+use Rattle.jfs_survival.specs.face.specs.Items.{places, place_of, extent_by}
+use Rattle.jfs_survival.specs.face.specs.Volume.{items_on, volume_with, face_of}
+use Rattle.jfs_survival.specs.face.proofs.InRow.{redo_law}
+use Rattle.jfs_survival.specs.face.proofs.Whole.{is_face}
+use Rattle.jfs_survival.specs.logged.specs.Logged.{logged_in}
 use Rattle.jfs_survival.specs.Entry.{ShowsLogged}
 use Rattle.jfs_survival.proofs.Lines.{whole_lines}
 use Rattle.jfs_image_volumes.specs.Stands.{IsVolumeAfter, ShowsLaw}

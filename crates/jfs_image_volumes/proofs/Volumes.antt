@@ -7,30 +7,30 @@ use Rattle.jfs_bits.specs.Bits.{is_taken}
 use Rattle.jfs_bits.specs.Field.{range_of}
 use Rattle.jfs_bits.specs.declared.descriptor.Pxd.{Pxd}
 use Rattle.jfs_ranges.specs.declared.edit.Edit.{Edit}
-use Rattle.jfs_steps.specs.After.{used_after}
-use Rattle.jfs_recovery.specs.objects.specs.Readers.{Readers}
-use Rattle.jfs_recovery.specs.objects.specs.Volume.{Volume, page_in, home, slot_of}
-use Rattle.jfs_recovery.specs.objects.specs.Objects.{Object, objects, object_in, shown, is_live, spelled}
-use Rattle.jfs_recovery.specs.objects.specs.Owners.{bit, IsSound}
-use Rattle.jfs_recovery.specs.objects.specs.Image.{iag_page, extent_place, is_block_used, is_inode_used, volume_on}
-use Rattle.jfs_recovery.specs.kinds.specs.Owner.{Owner, owner_of, is_logged}
-use Rattle.jfs_recovery.specs.kinds.specs.Owner.Owner.{Area, Inodes}
-use Rattle.jfs_recovery.specs.kinds.specs.Images.{IsSameVolume}
-use Rattle.jfs_recovery.specs.kinds.proofs.Logged.{reads}
-use Rattle.jfs_recovery.specs.kinds.proofs.Single.{has_owners as one_owner}
-use Rattle.jfs_recovery.specs.Face.{Pages, Item, Value, lined, items_after, IsStep}
-use Rattle.jfs_recovery.specs.Face.Item.{BlockBit, ExtentPlace}
-use Rattle.jfs_recovery.specs.Face.Value.{InUse}
-use Rattle.jfs_recovery.proofs.Images.{closed_item}
-use Rattle.jfs_face.specs.Places.{Places, AreInAreas, is_map_page}
-use Rattle.jfs_face.specs.Items.{places, place_of, bit_of, extent_by, set_by}
-use Rattle.jfs_face.specs.MapPages.{home_by, is_used_on, inode_used_by}
-use Rattle.jfs_face.specs.Mounted.{places_on, HasMapPages}
-use Rattle.jfs_face.specs.Volume.{items_on, face_of}
-use Rattle.jfs_face.proofs.InRow.{redo_law}
-use Rattle.jfs_face.proofs.Mounted.{seen_as_it_is}
-use Rattle.jfs_face.proofs.Reading.{inode_page}
-use Rattle.jfs_face.proofs.Whole.{is_face}
+use Rattle.jfs_survival.specs.face.specs.steps.specs.After.{used_after}
+use Rattle.jfs_survival.specs.recovery.specs.objects.specs.Readers.{Readers}
+use Rattle.jfs_survival.specs.recovery.specs.objects.specs.Volume.{Volume, page_in, home, slot_of}
+use Rattle.jfs_survival.specs.recovery.specs.objects.specs.Objects.{Object, objects, object_in, shown, is_live, spelled}
+use Rattle.jfs_survival.specs.recovery.specs.objects.specs.Owners.{bit, IsSound}
+use Rattle.jfs_survival.specs.recovery.specs.objects.specs.Image.{iag_page, extent_place, is_block_used, is_inode_used, volume_on}
+use Rattle.jfs_survival.specs.recovery.specs.kinds.specs.Owner.{Owner, owner_of, is_logged}
+use Rattle.jfs_survival.specs.recovery.specs.kinds.specs.Owner.Owner.{Area, Inodes}
+use Rattle.jfs_survival.specs.recovery.specs.kinds.specs.Images.{IsSameVolume}
+use Rattle.jfs_survival.specs.recovery.specs.kinds.proofs.Logged.{reads}
+use Rattle.jfs_survival.specs.recovery.specs.kinds.proofs.Single.{has_owners as one_owner}
+use Rattle.jfs_survival.specs.recovery.specs.Face.{Pages, Item, Value, lined, items_after, IsStep}
+use Rattle.jfs_survival.specs.recovery.specs.Face.Item.{BlockBit, ExtentPlace}
+use Rattle.jfs_survival.specs.recovery.specs.Face.Value.{InUse}
+use Rattle.jfs_survival.specs.recovery.proofs.Images.{closed_item}
+use Rattle.jfs_survival.specs.face.specs.Places.{Places, AreInAreas, is_map_page}
+use Rattle.jfs_survival.specs.face.specs.Items.{places, place_of, bit_of, extent_by, set_by}
+use Rattle.jfs_survival.specs.face.specs.MapPages.{home_by, is_used_on, inode_used_by}
+use Rattle.jfs_survival.specs.face.specs.Mounted.{places_on, HasMapPages}
+use Rattle.jfs_survival.specs.face.specs.Volume.{items_on, face_of}
+use Rattle.jfs_survival.specs.face.proofs.InRow.{redo_law}
+use Rattle.jfs_survival.specs.face.proofs.Mounted.{seen_as_it_is}
+use Rattle.jfs_survival.specs.face.proofs.Reading.{inode_page}
+use Rattle.jfs_survival.specs.face.proofs.Whole.{is_face}
 use Rattle.jfs_survival.specs.Entry.{ShowsLogged}
 use Rattle.jfs_image_volumes.specs.Stands.{VolumeLaw}
 use Rattle.jfs_image_volumes.proofs.Read.{no_map_page, file_page_is, used_is, extents_are}

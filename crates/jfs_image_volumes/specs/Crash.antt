@@ -4,18 +4,18 @@ use Rattle.jfs_bits.specs.declared.descriptor.Pxd.{Pxd}
 use Rattle.jfs_disk.specs.Image.{Image}
 use Rattle.jfs_disk.specs.Crash.{IsCrashImage}
 use Rattle.jfs_ranges.specs.declared.edit.Edit.{Edit}
-use Rattle.jfs_halves.specs.Half.{Halves, low_in}
-use Rattle.jfs_halves.specs.Both.{BothChange, after}
-use Rattle.jfs_recovery.specs.objects.specs.Readers.{Readers}
-use Rattle.jfs_recovery.specs.objects.specs.Volume.{Volume}
-use Rattle.jfs_recovery.specs.objects.specs.Image.{volume_on}
-use Rattle.jfs_recovery.specs.kinds.specs.Images.{IsSameVolume}
-use Rattle.jfs_recovery.specs.Face.{Pages, IsRedone}
-use Rattle.jfs_recovery.specs.Core.{Core, Step, count, entry, image, after_steps}
-use Rattle.jfs_recovery.specs.Sound.{IsSound, IsLogImage, window}
-use Rattle.jfs_face.specs.Places.{Places}
-use Rattle.jfs_face.specs.Recovered.{IsAfterPrefix}
-use Rattle.jfs_face.specs.Volume.{face_of}
+use Rattle.jfs_survival.specs.halves.specs.Half.{Halves, low_in}
+use Rattle.jfs_survival.specs.halves.specs.Both.{BothChange, after}
+use Rattle.jfs_survival.specs.recovery.specs.objects.specs.Readers.{Readers}
+use Rattle.jfs_survival.specs.recovery.specs.objects.specs.Volume.{Volume}
+use Rattle.jfs_survival.specs.recovery.specs.objects.specs.Image.{volume_on}
+use Rattle.jfs_survival.specs.recovery.specs.kinds.specs.Images.{IsSameVolume}
+use Rattle.jfs_survival.specs.recovery.specs.Face.{Pages, IsRedone}
+use Rattle.jfs_survival.specs.recovery.specs.Core.{Core, Step, count, entry, image, after_steps}
+use Rattle.jfs_survival.specs.recovery.specs.Sound.{IsSound, IsLogImage, window}
+use Rattle.jfs_survival.specs.face.specs.Places.{Places}
+use Rattle.jfs_survival.specs.face.specs.Recovered.{IsAfterPrefix}
+use Rattle.jfs_survival.specs.face.specs.Volume.{face_of}
 use Rattle.jfs_survival.specs.Laws.{IsRunOf, left_by}
 use Rattle.jfs_survival.specs.Stands.{IsCoreOf}
 use Rattle.jfs_image_volumes.specs.Next.{IsImageOfVolume, MayFollow}

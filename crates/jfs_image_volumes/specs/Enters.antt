@@ -2,13 +2,13 @@
 use Rattle.std.specs.Prelude.{◌≡◌, ◌≤◌, ℕ, true, false, length}
 use Rattle.jfs_bits.specs.declared.descriptor.Pxd.{Pxd}
 use Rattle.jfs_ranges.specs.Apply.{touches_tx}
-use Rattle.jfs_halves.specs.Entry.{Happened, edits}
-use Rattle.jfs_halves.specs.Half.{Halves}
-use Rattle.jfs_recovery.specs.records.specs.Redo.{closes_in}
-use Rattle.jfs_recovery.specs.objects.specs.Readers.{Readers}
-use Rattle.jfs_recovery.specs.objects.specs.Volume.{Volume}
-use Rattle.jfs_recovery.specs.Core.{Core, count, image}
-use Rattle.jfs_face.specs.Places.{Places, is_map_page}
+use Rattle.jfs_survival.specs.halves.specs.Entry.{Happened, edits}
+use Rattle.jfs_survival.specs.halves.specs.Half.{Halves}
+use Rattle.jfs_survival.specs.recovery.specs.records.specs.Redo.{closes_in}
+use Rattle.jfs_survival.specs.recovery.specs.objects.specs.Readers.{Readers}
+use Rattle.jfs_survival.specs.recovery.specs.objects.specs.Volume.{Volume}
+use Rattle.jfs_survival.specs.recovery.specs.Core.{Core, count, image}
+use Rattle.jfs_survival.specs.face.specs.Places.{Places, is_map_page}
 use Rattle.jfs_survival.specs.Enters.{IsLoggedEntry}
 use Rattle.jfs_canonical_maps.specs.Places.{FitMaps}
 use Rattle.jfs_canonical_maps.specs.Images.{after_entry}

@@ -2,15 +2,15 @@
 use Rattle.std.specs.Prelude.{◌≡◌, ℕ, Bool, true, List, [], ◌∷◌, length}
 use Rattle.jfs_bits.specs.declared.descriptor.Pxd.{Pxd}
 use Rattle.jfs_ranges.specs.declared.edit.Edit.{Edit}
-use Rattle.jfs_steps.specs.After.{used_after}
-use Rattle.jfs_recovery.specs.objects.specs.Readers.{Readers}
-use Rattle.jfs_recovery.specs.objects.specs.Volume.{Volume}
-use Rattle.jfs_recovery.specs.objects.specs.Owners.{IsSound}
-use Rattle.jfs_recovery.specs.objects.specs.Image.{volume_on}
-use Rattle.jfs_recovery.specs.Face.{Pages, IsStart}
-use Rattle.jfs_face.specs.Places.{Places, is_fixed_page}
-use Rattle.jfs_face.specs.Recovered.{IsVolumeAt}
-use Rattle.jfs_face.specs.Volume.{face_of}
+use Rattle.jfs_survival.specs.face.specs.steps.specs.After.{used_after}
+use Rattle.jfs_survival.specs.recovery.specs.objects.specs.Readers.{Readers}
+use Rattle.jfs_survival.specs.recovery.specs.objects.specs.Volume.{Volume}
+use Rattle.jfs_survival.specs.recovery.specs.objects.specs.Owners.{IsSound}
+use Rattle.jfs_survival.specs.recovery.specs.objects.specs.Image.{volume_on}
+use Rattle.jfs_survival.specs.recovery.specs.Face.{Pages, IsStart}
+use Rattle.jfs_survival.specs.face.specs.Places.{Places, is_fixed_page}
+use Rattle.jfs_survival.specs.face.specs.Recovered.{IsVolumeAt}
+use Rattle.jfs_survival.specs.face.specs.Volume.{face_of}
 use Rattle.jfs_survival.specs.Entry.{ShowsLogged}
 use Rattle.jfs_canonical_maps.specs.Places.{FitMaps}
 use Rattle.jfs_canonical_maps.specs.Images.{made_canonical, after_entry}

@@ -2,18 +2,18 @@
 use Rattle.std.specs.Prelude.{◌≡◌, ℕ, Bool, true, List, length}
 use Rattle.jfs_bits.specs.declared.descriptor.Pxd.{Pxd}
 use Rattle.jfs_ranges.specs.declared.edit.Edit.{Edit}
-use Rattle.jfs_steps.specs.After.{extents_after, used_after}
-use Rattle.jfs_recovery.specs.objects.specs.Readers.{Readers}
-use Rattle.jfs_recovery.specs.objects.specs.Volume.{Volume}
-use Rattle.jfs_recovery.specs.objects.specs.Owners.{IsSound}
-use Rattle.jfs_recovery.specs.objects.specs.Image.{volume_on}
-use Rattle.jfs_recovery.specs.kinds.specs.Images.{HasWholeFiles, IsSameVolume}
-use Rattle.jfs_recovery.specs.Face.{Pages, IsStep}
-use Rattle.jfs_face.specs.Places.{Places, AreInAreas, is_fixed_page}
-use Rattle.jfs_face.specs.Mounted.{places_on, HasMapPages}
-use Rattle.jfs_face.specs.Recovered.{IsVolumeAt}
-use Rattle.jfs_face.specs.Volume.{face_of}
-use Rattle.jfs_logged.specs.Logged.{LogsWell}
+use Rattle.jfs_survival.specs.face.specs.steps.specs.After.{extents_after, used_after}
+use Rattle.jfs_survival.specs.recovery.specs.objects.specs.Readers.{Readers}
+use Rattle.jfs_survival.specs.recovery.specs.objects.specs.Volume.{Volume}
+use Rattle.jfs_survival.specs.recovery.specs.objects.specs.Owners.{IsSound}
+use Rattle.jfs_survival.specs.recovery.specs.objects.specs.Image.{volume_on}
+use Rattle.jfs_survival.specs.recovery.specs.kinds.specs.Images.{HasWholeFiles, IsSameVolume}
+use Rattle.jfs_survival.specs.recovery.specs.Face.{Pages, IsStep}
+use Rattle.jfs_survival.specs.face.specs.Places.{Places, AreInAreas, is_fixed_page}
+use Rattle.jfs_survival.specs.face.specs.Mounted.{places_on, HasMapPages}
+use Rattle.jfs_survival.specs.face.specs.Recovered.{IsVolumeAt}
+use Rattle.jfs_survival.specs.face.specs.Volume.{face_of}
+use Rattle.jfs_survival.specs.logged.specs.Logged.{LogsWell}
 use Rattle.jfs_survival.specs.Entry.{ShowsLogged}
 
 -- ---- the places

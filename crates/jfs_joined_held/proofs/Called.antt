@@ -10,7 +10,7 @@ use Rattle.jfs_ranges.specs.Apply.{apply_tx, touches_tx}
 use Rattle.jfs_ranges.specs.Laid.{put_tx}
 use Rattle.jfs_ranges.specs.View.{AreWhole}
 use Rattle.jfs_ranges.specs.declared.edit.Edit.{Edit}
-use Rattle.jfs_marks.specs.imap.specs.Inodes.{Inodes}
+use Rattle.jfs_entries_within.specs.entered.specs.marks.specs.imap.specs.Inodes.{Inodes}
 use Rattle.jfs_volume.specs.bmap.specs.States.{Blocks, BlockState, Free, Owned, Reserved, Busy, put_state, state_of, is_owned, is_owned_state}
 use Rattle.jfs_volume.specs.bmap.proofs.States.{changed-length}
 use Rattle.jfs_volume.specs.data_steps.specs.objects.specs.Readers.{Readers}
@@ -18,16 +18,16 @@ use Rattle.jfs_volume.specs.data_steps.specs.objects.specs.Owners.{IsSound}
 use Rattle.jfs_volume.specs.data_steps.specs.objects.specs.Volume.{Volume}
 use Rattle.jfs_volume.specs.data_steps.specs.meaning.specs.Readers.{readers}
 use Rattle.jfs_volume.specs.data_steps.specs.way.specs.Volume.{volume_of}
-use Rattle.jfs_entered.specs.Marked.{AreLoggable, HasMarks, IsMapAfter}
-use Rattle.jfs_entered.specs.Laws.{IsEnteredMap, AreBlocksAfter}
-use Rattle.jfs_entered.proofs.Behind.{behind_law}
-use Rattle.jfs_entered.proofs.InUse.{inodes_law}
-use Rattle.jfs_entered.proofs.Joined.{pages_law, volume_law}
-use Rattle.jfs_entered.proofs.Used.{blocks_law}
+use Rattle.jfs_entries_within.specs.entered.specs.Marked.{AreLoggable, HasMarks, IsMapAfter}
+use Rattle.jfs_entries_within.specs.entered.specs.Laws.{IsEnteredMap, AreBlocksAfter}
+use Rattle.jfs_entries_within.specs.entered.proofs.Behind.{behind_law}
+use Rattle.jfs_entries_within.specs.entered.proofs.InUse.{inodes_law}
+use Rattle.jfs_entries_within.specs.entered.proofs.Joined.{pages_law, volume_law}
+use Rattle.jfs_entries_within.specs.entered.proofs.Used.{blocks_law}
 use Rattle.jfs_entries_within.proofs.Within.{part_law, within_law}
-use Rattle.jfs_marks.specs.Marks.{AreMarked}
-use Rattle.jfs_marks.specs.Marking.{AreMarksOf}
-use Rattle.jfs_marks.specs.declared.marking.Marking.TheVariants.{Fits}
+use Rattle.jfs_entries_within.specs.entered.specs.marks.specs.Marks.{AreMarked}
+use Rattle.jfs_entries_within.specs.entered.specs.marks.specs.Marking.{AreMarksOf}
+use Rattle.jfs_entries_within.specs.entered.specs.marks.specs.declared.marking.Marking.TheVariants.{Fits}
 use Rattle.jfs_volume.specs.Append.{unreserved}
 use Rattle.jfs_volume.specs.Called.{IsJoined, JoinsWith, happened}
 use Rattle.jfs_volume.specs.Data.{put_pages}

@@ -18,8 +18,8 @@ use Rattle.jfs_volume.specs.halves.specs.Entry.{Happened}
 use Rattle.jfs_volume.specs.halves.specs.Half.{Halves}
 use Rattle.jfs_volume.specs.halves.specs.Parts.{Parts, StandsFor}
 use Rattle.jfs_volume.specs.plain.specs.declared.call.Entry.{Entry}
-use Rattle.jfs_entered.specs.Laws.{IsReserved}
-use Rattle.jfs_entered.specs.Marked.{HasBits}
+use Rattle.jfs_entries_within.specs.entered.specs.Laws.{IsReserved}
+use Rattle.jfs_entries_within.specs.entered.specs.Marked.{HasBits}
 use Rattle.jfs_held_calls.specs.held.specs.survival.specs.recovery.specs.Core.{Core}
 use Rattle.jfs_held_calls.specs.held.specs.survival.specs.logged.specs.Logged.{LogsWell}
 use Rattle.jfs_held_calls.specs.held.specs.Held.{Mount}

@@ -84,7 +84,7 @@ module _ (s : Super) (old : Image) (p : Parts) (log : LogParts) (m : IsMountOf �
 
   pub reached : StandsFor true true p keeper.both.volume → (k : ℕ) → k ≤ 0 → Reaches s (page_of old) p (take k []) (keeper.volumes k)
   reached stands k within = subst (λ (n : ℕ). Reaches s (page_of old) p (take n []) (keeper.volumes n)) (let none : 0 ≡ k = omega (arith, within) in none)
-      (record { last = p; legal = IsLegal.starts; same = newest_law (mount_of s (low_of m.pages)) area p keeper (rests stands); consistent = consistent stands })
+      (record { last = p; legal = IsLegal.starts; blocks = size; same = newest_law (mount_of s (low_of m.pages)) area p keeper (rests stands); consistent = consistent stands })
 
 -- the mount, of a disk that tells its contents
 abbrev told_mount : (tells crashes : Type 0) → tells → (s : Super) (old : Image) (p : Parts) (log : LogParts) → IsMountOf tells crashes s old p log → IsMountOf ⊤ ⊥ s old p log

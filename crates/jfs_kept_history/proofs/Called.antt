@@ -76,6 +76,7 @@ module _ (s : Super) (page : ℕ → List ℕ) (start : Parts) (list : List Last
         (record {
           last = new;
           legal = goes.legal;
+          blocks = sym j.steps.kept.rests.held.blocks;
           same = subst (λ (n : ℕ). IsSame n) number (newest_law (mount_of s k.low) (meaning.volume_of s page).area new j.steps.keeper j.steps.kept.rests);
           consistent = subst (λ (r : Readers). IsConsistent r (volume_at (meaning.volume_of s page).area new)) j.steps.kept.rests.held.readers_are goes.serves.holds.consistent;
         })

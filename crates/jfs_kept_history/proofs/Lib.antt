@@ -3,7 +3,9 @@ pub mod Quiet
 pub mod Steps
 pub mod Keepable
 pub mod Begun
+pub mod Nodes
 pub mod Targets
+pub mod Maps
 pub mod Crash
 pub mod Items
 pub mod Rested

@@ -1,18 +1,18 @@
 -- A volume with the objects of a consistent one is consistent: what stands on pages that no inode or tree is read from, as a link's long target, says nothing of that.
 use Rattle.std.proofs.Common.{◌≡◌, ◌+◌, ◌<◌, ◌*◌, ◌==◌, ℕ, Bool, true, false, if◌then◌else◌, List, [], length, Option, Some, None, refl, sym, ap, subst, ◌∙◌}
-use Rattle.std.specs.Prelude.{is_some, Result, Ok, Err}
+use Rattle.std.specs.Prelude.{is_some, option_map}
 use Rattle.jfs_legal.specs.served.specs.shown.specs.kinds.specs.Images.{IsSameVolume}
 use Rattle.jfs_legal.specs.served.specs.shown.specs.meaning.specs.Consistent.{leading_to, names_in, names_for, names_to, is_directory, subdirectories, links_due, IsConsistent, IsConsistentTree}
-use Rattle.jfs_legal.specs.served.specs.shown.specs.meaning.specs.Node.{node_from, node_in, target_in}
-use Rattle.jfs_legal.specs.served.specs.shown.specs.meaning.specs.Tree.{tree_on}
+use Rattle.jfs_legal.specs.served.specs.shown.specs.meaning.specs.Tree.{node_on, tree_on}
 use Rattle.jfs_legal.specs.served.specs.shown.specs.meaning.proofs.Books.{same_subdirectories}
 use Rattle.jfs_legal.specs.served.specs.shown.specs.meaning.specs.plain.specs.Tree.{Tree, root, is_dir}
 use Rattle.jfs_legal.specs.served.specs.shown.specs.meaning.specs.plain.specs.declared.node.Node.{Node}
 use Rattle.jfs_legal.specs.served.specs.shown.specs.objects.proofs.Sums.{sum_same}
-use Rattle.jfs_legal.specs.served.specs.shown.specs.objects.specs.Objects.{Object, objects, listed}
 use Rattle.jfs_legal.specs.served.specs.shown.specs.objects.specs.Owners.{IsSound, bit}
 use Rattle.jfs_legal.specs.served.specs.shown.specs.objects.specs.Readers.{Readers}
 use Rattle.jfs_legal.specs.served.specs.shown.specs.objects.specs.Volume.{Volume, room}
+use Rattle.jfs_kept_history.specs.Tree.{has_long_target, without_blocks}
+use Rattle.jfs_kept_history.proofs.Nodes.{nodes_law}
 
 -- a node but for its target
 abbrev pub bare : Option Node → Option Node
@@ -92,22 +92,20 @@ module _ (most : ℕ) (t u : Tree) (s : (n : ℕ) → bare (u.nodes n) ≡ bare 
 
 -- ---- volumes
 
--- said of what is read from a directory and of the extents, each or a fault
-by_both : {N X E F : Type 0} (f g : Result N E → Result X F → Option Node) → ((n : N) (x : X) → bare (f (Ok n) (Ok x)) ≡ bare (g (Ok n) (Ok x))) → ((n : N) (e : F) → bare (f (Ok n) (Err e)) ≡ bare (g (Ok n) (Err e)))
-    → ((e : E) (b : Result X F) → bare (f (Err e) b) ≡ bare (g (Err e) b)) → (a : Result N E) (b : Result X F) → bare (f a b) ≡ bare (g a b)
-by_both f g both no_extents no_names (Ok n) (Ok x) = both n x
-by_both f g both no_extents no_names (Ok n) (Err e) = no_extents n e
-by_both f g both no_extents no_names (Err e) b = no_names e b
-
-bare_from : (r : Readers) (p q : ℕ → List ℕ) (x : Option Object) → bare (node_in r p x) ≡ bare (node_in r q x)
-bare_from r p q None = refl
-bare_from r p q (Some o) = by_both (node_from o.inode (target_in r p o)) (node_from o.inode (target_in r q o)) (λ n x. refl) (λ n e. refl) (λ e b. refl) (listed r.names_order o.names) (listed r.extents_order o.extents)
+-- but for its target a node is what it is without a long one
+bare_kept : (x : Option Node) → bare (option_map without_blocks x) ≡ bare x
+bare_kept None = refl
+bare_kept (Some o) = by (has_long_target o)
+  where
+    by : (long : Bool) → bare (Some (if long then record o { target = [] } else o)) ≡ bare (Some o)
+    by true = refl
+    by false = refl
 
 -- Of two volumes like one another the first is consistent where the second is.
 pub same_consistent : (r : Readers) (v w : Volume) → IsSameVolume r v w → IsSound r v → IsConsistent r w → IsConsistent r v
 same_consistent r v w same sound c = record {
   sound = sound;
   inodes = λ n o there. c.inodes n o (same.objects n ∙ there);
-  tree = targets_consistent (room v) (tree_on r w) (tree_on r v) (λ n. bare_from r v.page w.page (objects r v n) ∙ ap (λ (x : Option Object). bare (node_in r w.page x)) (sym (same.objects n)))
+  tree = targets_consistent (room v) (tree_on r w) (tree_on r v) (λ n. sym (bare_kept (node_on r v n)) ∙ ap bare (sym ((nodes_law r v w same).nodes n)) ∙ bare_kept (node_on r w n))
       (subst (λ (most : ℕ). IsConsistentTree most (tree_on r w)) (ap (λ (extents : List (Option ℕ)). 32 * length extents) same.extents) c.tree);
 }

@@ -7,9 +7,12 @@ use Rattle.jfs_super.specs.Rules.{blocks_of, IsAccepted}
 use Rattle.jfs_super.specs.Super.{super_of}
 use Rattle.jfs_super.specs.declared.fields.Super.{Super}
 use Rattle.jfs_super.specs.declared.fields.TheConstants.VolumeState.{CLEAN, MOUNTED}
+use Rattle.jfs_findings_new.specs.mount_rules.specs.Subject.{subject_of}
+use Rattle.jfs_agree.specs.Agree.{MapsAgree}
 use Rattle.jfs_legal.specs.served.specs.halves.specs.Half.{LogHalf}
 use Rattle.jfs_legal.specs.served.specs.halves.specs.Parts.{Parts}
 use Rattle.jfs_legal.specs.served.specs.shown.specs.meaning.specs.Image as meaning
+use Rattle.jfs_legal.specs.served.specs.Holds.{tree_at}
 use Rattle.jfs_legal.specs.served.specs.Legal.{Timed}
 use Rattle.jfs_crashes_redone.specs.Crashed.{HasCrashed}
 use Rattle.jfs_crashes_redone.specs.redo.specs.Log.{AreCommitted}
@@ -19,13 +22,16 @@ use Rattle.jfs_points_kept.specs.kept_volumes.specs.Logs.{with_log, IsLogBeside}
 use Rattle.jfs_mounted_maps.specs.Keepable.{IsKeepable}
 use Rattle.jfs_kept_history.specs.Keepable.{IsKeepableImage}
 use Rattle.jfs_kept_history.specs.Kept.{Lasting, timed_in, Reaches, IsKeptSince}
+use Rattle.jfs_kept_history.specs.Tree.{SameNodes}
 
--- Redone pages: they are a keepable volume, so it is consistent, and its maps agree with its inodes; and it is what the history of these entries leaves.
+-- Redone pages, and what the history of these entries leaves. Their tree, file bytes aside, is the one behind the last of the plain steps (`IsLegal` goes from the start's tree to it); and their maps agree with the inodes: both sets are those of the owners and of the inodes in use, and each page of both maps is the canonical one of them. They are a keepable volume, so it is consistent.
 pub record HoldsHistory (s : Super) (page : ℕ → List ℕ) (start : Parts) (es : List Timed) (new : ℕ → List ℕ) : Type 0 where
-  pub keepable : IsKeepable s new
   pub reached : Reaches s page start es (meaning.volume_of s new)
+  pub tree : SameNodes (tree_at (meaning.volume_of s page).area reached.last) (meaning.tree_of s new)
+  pub maps : MapsAgree (subject_of s new)
+  pub keepable : IsKeepable s new
 
--- The disk's superblock says that the volume is mounted, and redo refuses it for nothing. However the log is read, a disk that is redone by its transactions has the volume after the first n entries of the history, all durable ones among them: their tree, all but the bytes of files and of a link's target of 256 bytes and more, which stands in blocks of its own (`Reaches`).
+-- The disk's superblock says that the volume is mounted, and redo refuses it for nothing. However the log is read, a disk that is redone by its transactions has the tree, file bytes aside, after the first n entries of the history, all durable ones among them, and maps that agree with the inodes.
 pub record IsRedoneToHistory (s : Super) (page : ℕ → List ℕ) (start : Parts) (list : List Lasting) (durable : ℕ) (old : Image) : Type 0 where
   pub n : ℕ
   pub durable_are : durable ≤ n

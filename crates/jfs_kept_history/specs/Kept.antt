@@ -6,7 +6,7 @@ use Rattle.jfs_super.specs.declared.fields.Super.{Super}
 use Rattle.jfs_super.specs.declared.fields.TheConstants.VolumeState.{MOUNTED}
 use Rattle.jfs_legal.specs.served.specs.halves.specs.Entry.{Happened, entry_of}
 use Rattle.jfs_legal.specs.served.specs.halves.specs.Parts.{Parts}
-use Rattle.jfs_legal.specs.served.specs.Holds.{volume_at}
+use Rattle.jfs_legal.specs.served.specs.Holds.{blocks_at, volume_at}
 use Rattle.jfs_legal.specs.served.specs.Legal.{Timed, IsLegal}
 use Rattle.jfs_legal.specs.served.specs.shown.specs.kinds.specs.Images.{IsSameVolume}
 use Rattle.jfs_legal.specs.served.specs.shown.specs.meaning.specs.Consistent.{IsConsistent}
@@ -40,10 +40,11 @@ timed_in list = map (λ (e : Lasting). e.timed) list
 
 -- ---- the volume after them
 
--- Some parts hold this volume after a legal history, by all that the log keeps safe: its sets, its objects, and who owns each block. It is consistent.
+-- Some parts hold this volume after a legal history, by all that the log keeps safe: its sets, its objects, and who owns each block. It has the superblock's blocks, and is consistent.
 pub record Reaches (s : Super) (page : ℕ → List ℕ) (start : Parts) (es : List Timed) (v : Volume) : Type 0 where
   pub last : Parts
   pub legal : IsLegal (meaning.volume_of s page).area s.logpxd.len start es last
+  pub blocks : blocks_at last ≡ blocks_of s
   pub same : IsSameVolume (readers (blocks_of s)) v (volume_at (meaning.volume_of s page).area last)
   pub consistent : IsConsistent (readers (blocks_of s)) (volume_at (meaning.volume_of s page).area last)
 

@@ -2,6 +2,7 @@
 
 ghost use Rattle.jfs_kept_history.specs.Laws.{BeginLaw, TakenLaw, ToldLaw, HaltedLaw, HandedLaw, HomeAllLaw, HomeMapsLaw, SyncLaw, SettledLaw, PointLaw, KnowLaw, CallLaw};
 ghost use Rattle.jfs_kept_history.specs.Keepable.{CheckedLaw, MountLaw};
+ghost use Rattle.jfs_kept_history.specs.Tree.{NodesLaw};
 ghost use Rattle.jfs_kept_history.specs.Crash.{CrashLaw, RedoneAgainLaw};
 ghost use Rattle.jfs_kept_history.specs.Failed.{FailedLaw};
 ghost use Rattle.jfs_kept_history.specs.Rested.{ItemsLaw, RestedLaw, LostLaw};
@@ -79,7 +80,12 @@ pub fn calls_are_kept<D: Disk>()
     ensures { CallLaw D.tells D.tells_crashes }
 {}
 
-/// Whatever a crash leaves of it is redone to the volume after the first entries of its history, all durable ones among them.
+/// Two volumes with the same objects have the same tree, the bytes of files aside.
+pub fn like_volumes_have_the_same_nodes()
+    ensures { NodesLaw }
+{}
+
+/// Whatever a crash leaves of it is redone to the tree after the first entries of its history, all durable ones among them, and to maps that agree with the inodes.
 pub fn crashes_are_redone_to_the_history()
     ensures { CrashLaw }
 {}

@@ -20,7 +20,7 @@ pub mod unmount {
 pub mod call {
     //! Passed on from `jfs_served`.
 
-    pub use jfs_served::call::{Outcome, call_with_log};
+    pub use jfs_served::call::{Outcome, call_without_log};
 }
 
 pub mod volume_calls {

@@ -78,15 +78,3 @@ pub(crate) fn place_in(bytes: &[u8]) -> u32
 {
     get_u32(bytes, 8) / 32
 }
-
-#[cfg(test)]
-mod tests {
-    use super::place_in;
-    use std::test::*;
-
-    #[test]
-    fn place_of_first_number(rt: HostRuntime) {
-        let bytes = [0, 0, 0, 0, 0, 0, 0, 0, 0x45, 1, 0, 0];
-        assert_eq!(rt; place_in(&bytes), 10);
-    }
-}

@@ -1,3 +1,4 @@
 pub mod Parts
 pub mod Marking
 pub mod Left
+pub mod Moments

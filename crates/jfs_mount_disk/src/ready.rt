@@ -68,6 +68,8 @@ pub fn begin<D: Disk>(disk: D, s: &Super) -> Result<Begun<D>, NotBegun<D>>
     ensures left_low { IfErr result (λ not. D.tells → D.tells_crashes → IsResting (last_of (D.past disk)) → Leaves (LeavesLow s.now (D.image disk)) (last_of (D.past not.disk))) }
     ensures left_log { IfErr result (λ not. D.tells → D.tells_crashes → IsResting (last_of (D.past disk)) → Leaves (LeavesLog s.now (D.image disk) not.why) (last_of (D.past not.disk))) }
     ensures left_high { IfErr result (λ not. D.tells → D.tells_crashes → IsResting (last_of (D.past disk)) → Leaves (LeavesUntouched s.now (D.image disk) not.why) (last_of (D.past not.disk))) }
+    // At each moment since the start it leaves of the low part old pages, and front sectors of the new page 8 over the old one.
+    ensures moments { IfErr result (λ not. D.tells → D.tells_crashes → IsResting (last_of (D.past disk)) → AllSince (LeavesLow s.now (D.image disk)) (D.past not.disk) (now_of (D.past disk))) }
 {
     // so that its numbers are known to fit
     let _pages = disk.pages();

@@ -9,10 +9,10 @@ use Rattle.jfs_bits.proofs.Broken.{each_holds}
 use Rattle.jfs_disk.specs.Image.{Image, page_of}
 use Rattle.jfs_super.specs.Rules.{blocks_of}
 use Rattle.jfs_super.specs.declared.fields.Super.{Super}
-use Rattle.jfs_volume_calls.specs.crash_core.specs.Core.{fresh_block}
-use Rattle.jfs_volume_calls.specs.halves.specs.Laws.{fresh_halves}
-use Rattle.jfs_volume_calls.specs.halves.specs.Log.{LogParts}
-use Rattle.jfs_volume_calls.specs.halves.specs.Parts.{Parts, StandsFor}
+use Rattle.jfs_unmount.specs.volume_calls.specs.crash_core.specs.Core.{fresh_block}
+use Rattle.jfs_unmount.specs.volume_calls.specs.halves.specs.Laws.{fresh_halves}
+use Rattle.jfs_unmount.specs.volume_calls.specs.halves.specs.Log.{LogParts}
+use Rattle.jfs_unmount.specs.volume_calls.specs.halves.specs.Parts.{Parts, StandsFor}
 use Rattle.jfs_unmount.specs.mounted.specs.Laws.{SameButSuper}
 use Rattle.jfs_unmount.specs.mounted.specs.Mount.{IsMountOf}
 use Rattle.jfs_unmount.specs.mounted.specs.mount_maps.specs.Maps.{blocks_on}

@@ -4,9 +4,9 @@ use Rattle.std.specs.Prelude.{◌≤◌, ◌<◌, ◌^◌, ◌-◌, ℕ, nat_lt,
 use Rattle.jfs_disk.specs.Image.{Image, page_of, ArePages}
 use Rattle.jfs_super.specs.Rules.{blocks_of, IsAccepted}
 use Rattle.jfs_super.specs.declared.fields.Super.{Super}
-use Rattle.jfs_volume_calls.specs.halves.specs.Entry.{Shown}
-use Rattle.jfs_volume_calls.specs.halves.specs.Log.{LogParts}
-use Rattle.jfs_volume_calls.specs.halves.specs.Parts.{Parts}
+use Rattle.jfs_unmount.specs.volume_calls.specs.halves.specs.Entry.{Shown}
+use Rattle.jfs_unmount.specs.volume_calls.specs.halves.specs.Log.{LogParts}
+use Rattle.jfs_unmount.specs.volume_calls.specs.halves.specs.Parts.{Parts}
 use Rattle.jfs_unmount.specs.mounted.specs.Mount.{IsMountOf}
 use Rattle.jfs_shown.specs.kinds.specs.Images.{HasWholeFiles}
 use Rattle.jfs_shown.specs.meaning.specs.Image.{IsConsistentImage}

@@ -12,7 +12,7 @@ use Rattle.jfs_agree.proofs.Agreed.{sound_law}
 use Rattle.jfs_checked_maps.proofs.Past.{past_law}
 use Rattle.jfs_shown.specs.bmap.specs.MapFile.{pages_of}
 use Rattle.jfs_shown.specs.meaning.specs.Readers.{readers}
-use Rattle.jfs_held_volumes.specs.survival.specs.face.specs.Mounted.{HasMapPages}
+use Rattle.jfs_mounted_held.specs.mounted_places.specs.held.specs.survival.specs.face.specs.Mounted.{HasMapPages}
 use Rattle.jfs_mounted_held.specs.mounted_places.proofs.Places.{in_file}
 use Rattle.jfs_mounted_maps.specs.Keepable.{KeepableLaw}
 use Rattle.jfs_mounted_maps.proofs.Rules.{maps_hold}

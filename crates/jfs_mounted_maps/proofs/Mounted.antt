@@ -9,24 +9,24 @@ use Rattle.jfs_super.specs.declared.fields.Super.{Super}
 use Rattle.jfs_super.proofs.Rules.{accepted_layout, accepted_log}
 use Rattle.jfs_volume_calls.specs.halves.specs.Log.{LogParts}
 use Rattle.jfs_volume_calls.specs.halves.specs.Parts.{Parts}
-use Rattle.jfs_unmount.specs.mounted.specs.Mount.{IsMountOf}
-use Rattle.jfs_unmount.specs.mounted.proofs.Started.{marked_same}
+use Rattle.jfs_mounted_held.specs.unmount.specs.mounted.specs.Mount.{IsMountOf}
+use Rattle.jfs_mounted_held.specs.unmount.specs.mounted.proofs.Started.{marked_same}
 use Rattle.jfs_mount.specs.Mount.{broken_mount}
 use Rattle.jfs_mount.specs.Subject.{Subject, subject_of}
 use Rattle.jfs_shown.specs.kinds.specs.Images.{HasWholeFiles}
 use Rattle.jfs_shown.specs.meaning.specs.Image as meaning
 use Rattle.jfs_shown.specs.meaning.specs.Readers.{readers}
-use Rattle.jfs_held_volumes.specs.survival.specs.face.specs.Mounted.{HasMapPages}
-use Rattle.jfs_held_volumes.specs.canonical_maps.specs.Laws.{HasMapBytes}
+use Rattle.jfs_mounted_held.specs.mounted_places.specs.held.specs.survival.specs.face.specs.Mounted.{HasMapPages}
+use Rattle.jfs_mounted_held.specs.mounted_places.specs.held.specs.canonical_maps.specs.Laws.{HasMapBytes}
 use Rattle.jfs_held_maps.specs.Maps.{KeepsMaps}
 use Rattle.jfs_held_maps.proofs.Kept.{replaced}
 use Rattle.jfs_held_maps.proofs.Places.{first_law, area_within}
-use Rattle.jfs_held_volumes.specs.survival.specs.face.specs.Places.{is_map_page}
+use Rattle.jfs_mounted_held.specs.mounted_places.specs.held.specs.survival.specs.face.specs.Places.{is_map_page}
 use Rattle.jfs_held_maps.proofs.Mounted.{mounted_law as has_maps}
 use Rattle.jfs_mounted_held.specs.joined_held.specs.Held.{volume_at}
 use Rattle.jfs_mounted_held.specs.mounted_places.specs.Mounted.{SetsPast, mount_of}
 use Rattle.jfs_mounted_held.specs.mounted_places.specs.Places.{groups_of, places_of}
-use Rattle.jfs_held_volumes.specs.survival.specs.recovery.specs.Face.{Pages}
+use Rattle.jfs_mounted_held.specs.mounted_places.specs.held.specs.survival.specs.recovery.specs.Face.{Pages}
 use Rattle.jfs_shown.specs.objects.specs.Readers.{Readers}
 use Rattle.jfs_mounted_held.specs.Mounted.{low_of, from_mount, shown_by, IsSoundMount}
 use Rattle.jfs_mounted_held.proofs.Mounted.{mounted_law as is_held, low_is, is_mounted}

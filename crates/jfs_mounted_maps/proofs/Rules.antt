@@ -25,14 +25,14 @@ use Rattle.jfs_shown.specs.objects.specs.Contents.{block_of}
 use Rattle.jfs_shown.specs.objects.specs.Image.{file_extents, file_page}
 use Rattle.jfs_shown.specs.objects.specs.Owners.{IsSound, owners, bit}
 use Rattle.jfs_shown.specs.objects.specs.Readers.{Readers}
-use Rattle.jfs_held_volumes.specs.image_volumes.proofs.Read.{file_page_is}
-use Rattle.jfs_held_volumes.specs.canonical_maps.specs.Laws.{HasMapBytes}
-use Rattle.jfs_held_volumes.specs.survival.specs.face.specs.Mounted.{HasMapPages}
-use Rattle.jfs_held_volumes.specs.survival.specs.face.specs.Places.{is_block_page, is_inode_page}
+use Rattle.jfs_mounted_held.specs.mounted_places.specs.held.specs.image_volumes.proofs.Read.{file_page_is}
+use Rattle.jfs_mounted_held.specs.mounted_places.specs.held.specs.canonical_maps.specs.Laws.{HasMapBytes}
+use Rattle.jfs_mounted_held.specs.mounted_places.specs.held.specs.survival.specs.face.specs.Mounted.{HasMapPages}
+use Rattle.jfs_mounted_held.specs.mounted_places.specs.held.specs.survival.specs.face.specs.Places.{is_block_page, is_inode_page}
 use Rattle.jfs_mounted_held.specs.mounted_places.specs.Mounted.{SetsPast}
 use Rattle.jfs_mounted_held.specs.mounted_places.specs.Places.{places_of}
 use Rattle.jfs_redone_volumes.proofs.Superblock.{places, map_page, inode_page, superblock_law}
-use Rattle.jfs_unmount.specs.mounted.proofs.Marked.{area_there, used_below}
+use Rattle.jfs_mounted_held.specs.unmount.specs.mounted.proofs.Marked.{area_there, used_below}
 
 is_none : (x : Option ℕ) → is_some x ≡ false → x ≡ None
 is_none None e = refl

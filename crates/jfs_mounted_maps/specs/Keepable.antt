@@ -7,7 +7,7 @@ use Rattle.jfs_super.specs.Rules.{blocks_of, IsAccepted}
 use Rattle.jfs_super.specs.declared.fields.Super.{Super}
 use Rattle.jfs_volume_calls.specs.halves.specs.Log.{LogParts}
 use Rattle.jfs_volume_calls.specs.halves.specs.Parts.{Parts}
-use Rattle.jfs_unmount.specs.mounted.specs.Mount.{IsMountOf}
+use Rattle.jfs_mounted_held.specs.unmount.specs.mounted.specs.Mount.{IsMountOf}
 use Rattle.jfs_findings_new.specs.findings.specs.Clean.{IsSoundVolume}
 use Rattle.jfs_findings_new.specs.mount_rules.specs.Subject.{subject_of}
 use Rattle.jfs_shown.specs.kinds.specs.Images.{HasWholeFiles}

@@ -16,10 +16,10 @@ use Rattle.jfs_joined_held.specs.held.specs.Changes.{steps_of, next, Made, after
 use Rattle.jfs_joined_held.specs.held.specs.Held.{Mount, Held, IsHeld, face_at, newest_image}
 use Rattle.jfs_joined_held.specs.held.proofs.Kept.{one}
 use Rattle.jfs_joined_held.specs.held.proofs.Played.{areas}
-use Rattle.jfs_volume.specs.data_steps.specs.objects.specs.Volume.{Volume}
-use Rattle.jfs_volume.specs.halves.specs.Both.{BothChange, Changes, GroupIsWritten, GroupFails, Fits, changed}
-use Rattle.jfs_volume.specs.halves.specs.Change.{Change, Enters, Takes, Tells, HandsOut, GoesHome, Tears, Drops, Writes, WriteTears, Stops, LogStops, Syncs, Points, Knows, changed as changed_half, after as after_changes}
-use Rattle.jfs_volume.specs.halves.specs.Half.{VolumeHalf, block_in, page_in, is_open}
+use Rattle.jfs_joined_held.specs.volume.specs.data_steps.specs.objects.specs.Volume.{Volume}
+use Rattle.jfs_joined_held.specs.volume.specs.halves.specs.Both.{BothChange, Changes, GroupIsWritten, GroupFails, Fits, changed}
+use Rattle.jfs_joined_held.specs.volume.specs.halves.specs.Change.{Change, Enters, Takes, Tells, HandsOut, GoesHome, Tears, Drops, Writes, WriteTears, Stops, LogStops, Syncs, Points, Knows, changed as changed_half, after as after_changes}
+use Rattle.jfs_joined_held.specs.volume.specs.halves.specs.Half.{VolumeHalf, block_in, page_in, is_open}
 use Rattle.jfs_pages_held.specs.Beside.{MarksStay, DirtyStays, IsNoEntry, NoEntries, IsBeside, AreBeside, DirtyLaw, BesideLaw}
 
 -- ---- dirty pages of a half

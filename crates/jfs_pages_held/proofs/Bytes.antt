@@ -30,14 +30,14 @@ use Rattle.jfs_joined_held.specs.held.specs.survival.specs.recovery.specs.crash_
 use Rattle.jfs_joined_held.specs.held.specs.Held.{Mount, Held, IsImageAt, face_at, newest_image}
 use Rattle.jfs_joined_held.specs.held.proofs.Played.{areas}
 use Rattle.jfs_joined_held.specs.Held.{blocks_at, volume_at, held_at, IsHeldAs}
-use Rattle.jfs_volume.specs.bmap.specs.MapFile.{pages_of, is_in_use, IsMapPage}
-use Rattle.jfs_volume.specs.bmap.specs.States.{Owned, is_owned, is_owned_state}
-use Rattle.jfs_volume.specs.data_steps.specs.declared.pages.DataPage.{DataPage}
-use Rattle.jfs_volume.specs.data_steps.specs.objects.specs.Image.{is_block_used, extent_place}
-use Rattle.jfs_volume.specs.data_steps.specs.objects.specs.Volume.{Volume, page_in}
-use Rattle.jfs_volume.specs.halves.specs.Half.{Halves}
-use Rattle.jfs_volume.specs.halves.specs.Parts.{Parts}
-use Rattle.jfs_volume.specs.map_files.specs.imap.specs.Inodes.{Inodes, is_used, extent_at, IsInodePage}
+use Rattle.jfs_joined_held.specs.volume.specs.bmap.specs.MapFile.{pages_of, is_in_use, IsMapPage}
+use Rattle.jfs_joined_held.specs.volume.specs.bmap.specs.States.{Owned, is_owned, is_owned_state}
+use Rattle.jfs_joined_held.specs.volume.specs.data_steps.specs.declared.pages.DataPage.{DataPage}
+use Rattle.jfs_joined_held.specs.volume.specs.data_steps.specs.objects.specs.Image.{is_block_used, extent_place}
+use Rattle.jfs_joined_held.specs.volume.specs.data_steps.specs.objects.specs.Volume.{Volume, page_in}
+use Rattle.jfs_joined_held.specs.volume.specs.halves.specs.Half.{Halves}
+use Rattle.jfs_joined_held.specs.volume.specs.halves.specs.Parts.{Parts}
+use Rattle.jfs_joined_held.specs.volume.specs.map_files.specs.imap.specs.Inodes.{Inodes, is_used, extent_at, IsInodePage}
 use Rattle.jfs_pages_held.specs.Homes.{AllTold, IsStalePage, IsStaleBytes, of_blocks, of_inodes, MapHomeLaw}
 use Rattle.jfs_pages_held.specs.Pages.{PagesKept}
 use Rattle.jfs_pages_held.proofs.Entry.{stand_apart}

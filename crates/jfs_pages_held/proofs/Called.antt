@@ -8,11 +8,11 @@ use Rattle.jfs_disk.specs.Image.{Image, page_of}
 use Rattle.jfs_ranges.specs.Apply.{touches_tx}
 use Rattle.jfs_ranges.specs.View.{AreWhole}
 use Rattle.jfs_ranges.specs.declared.edit.Edit.{Edit}
-use Rattle.jfs_entered.specs.Marked.{HasMarks}
-use Rattle.jfs_marks.specs.Marking.{AreMarksOf}
-use Rattle.jfs_marks.specs.Marks.{IsExtended, AreMarked, with_taken_if, with_freed_if}
-use Rattle.jfs_marks.specs.declared.marks.InodeMarks.{InodeMarks}
-use Rattle.jfs_marks.specs.declared.marking.Marking.TheVariants.{Fits}
+use Rattle.jfs_joined_held.specs.entered.specs.Marked.{HasMarks}
+use Rattle.jfs_joined_held.specs.entered.specs.marks.specs.Marking.{AreMarksOf}
+use Rattle.jfs_joined_held.specs.entered.specs.marks.specs.Marks.{IsExtended, AreMarked, with_taken_if, with_freed_if}
+use Rattle.jfs_joined_held.specs.entered.specs.marks.specs.declared.marks.InodeMarks.{InodeMarks}
+use Rattle.jfs_joined_held.specs.entered.specs.marks.specs.declared.marking.Marking.TheVariants.{Fits}
 use Rattle.jfs_joined_held.specs.held.specs.image_volumes.proofs.Next.{next_law}
 use Rattle.jfs_joined_held.specs.held.specs.image_volumes.specs.Next.{HasNext}
 use Rattle.jfs_joined_held.specs.held.specs.canonical_maps.specs.Images.{after_entry}
@@ -35,27 +35,27 @@ use Rattle.jfs_joined_held.specs.held_calls.proofs.Calls.{own_law}
 use Rattle.jfs_joined_held.specs.held_calls.specs.Calls.{made_by}
 use Rattle.jfs_joined_held.specs.Called.{volume_then, IsAnswered, IsRunOfCall}
 use Rattle.jfs_joined_held.specs.Held.{blocks_at, volume_at, held_at, IsHeldAs}
-use Rattle.jfs_volume.specs.Called.{JoinsWith}
-use Rattle.jfs_volume.specs.Runs.{taken_in, freed_in}
-use Rattle.jfs_volume.specs.Stale.{changes_blocks, changes_inodes, stale_after}
-use Rattle.jfs_volume.specs.bmap.proofs.States.{changed-length}
-use Rattle.jfs_volume.specs.bmap.specs.States.{BlockState, Reserved}
-use Rattle.jfs_volume.specs.data_steps.specs.After.{is_put, with_data}
-use Rattle.jfs_volume.specs.data_steps.specs.declared.pages.DataPage.{DataPage}
-use Rattle.jfs_volume.specs.data_steps.specs.objects.specs.Readers.{Readers}
-use Rattle.jfs_volume.specs.data_steps.specs.objects.specs.Volume.{Volume}
-use Rattle.jfs_volume.specs.data_steps.specs.steps.specs.After.{takes}
-use Rattle.jfs_volume.specs.halves.specs.Both.{Changes}
-use Rattle.jfs_volume.specs.halves.specs.Change.{Enters, Writes}
-use Rattle.jfs_volume.specs.halves.specs.Entry.{Happened, edits}
-use Rattle.jfs_volume.specs.halves.specs.Half.{Halves, block_in}
-use Rattle.jfs_volume.specs.halves.specs.Parts.{Parts}
-use Rattle.jfs_volume.specs.map_files.specs.declared.map_file.MapFiles.{MapFiles}
-use Rattle.jfs_volume.specs.map_files.specs.imap.specs.Inodes.{Inodes, is_used, with_put_back}
-use Rattle.jfs_volume.specs.plain.specs.declared.call.Entry.{Entry}
-use Rattle.jfs_volume.specs.records.specs.Limits.{IsLoggable}
-use Rattle.jfs_volume.specs.records.specs.Records.{noted, tx_of}
-use Rattle.jfs_volume.proofs.Texts.{tx_of-noted}
+use Rattle.jfs_joined_held.specs.volume.specs.Called.{JoinsWith}
+use Rattle.jfs_joined_held.specs.volume.specs.Runs.{taken_in, freed_in}
+use Rattle.jfs_joined_held.specs.volume.specs.Stale.{changes_blocks, changes_inodes, stale_after}
+use Rattle.jfs_joined_held.specs.volume.specs.bmap.proofs.States.{changed-length}
+use Rattle.jfs_joined_held.specs.volume.specs.bmap.specs.States.{BlockState, Reserved}
+use Rattle.jfs_joined_held.specs.volume.specs.data_steps.specs.After.{is_put, with_data}
+use Rattle.jfs_joined_held.specs.volume.specs.data_steps.specs.declared.pages.DataPage.{DataPage}
+use Rattle.jfs_joined_held.specs.volume.specs.data_steps.specs.objects.specs.Readers.{Readers}
+use Rattle.jfs_joined_held.specs.volume.specs.data_steps.specs.objects.specs.Volume.{Volume}
+use Rattle.jfs_joined_held.specs.volume.specs.data_steps.specs.steps.specs.After.{takes}
+use Rattle.jfs_joined_held.specs.volume.specs.halves.specs.Both.{Changes}
+use Rattle.jfs_joined_held.specs.volume.specs.halves.specs.Change.{Enters, Writes}
+use Rattle.jfs_joined_held.specs.volume.specs.halves.specs.Entry.{Happened, edits}
+use Rattle.jfs_joined_held.specs.volume.specs.halves.specs.Half.{Halves, block_in}
+use Rattle.jfs_joined_held.specs.volume.specs.halves.specs.Parts.{Parts}
+use Rattle.jfs_joined_held.specs.volume.specs.map_files.specs.declared.map_file.MapFiles.{MapFiles}
+use Rattle.jfs_joined_held.specs.volume.specs.map_files.specs.imap.specs.Inodes.{Inodes, is_used, with_put_back}
+use Rattle.jfs_joined_held.specs.volume.specs.plain.specs.declared.call.Entry.{Entry}
+use Rattle.jfs_joined_held.specs.volume.specs.records.specs.Limits.{IsLoggable}
+use Rattle.jfs_joined_held.specs.volume.specs.records.specs.Records.{noted, tx_of}
+use Rattle.jfs_joined_held.specs.volume.proofs.Texts.{tx_of-noted}
 use Rattle.jfs_pages_held.specs.Beside.{MarksStay, DirtyStays, KeepsFiles}
 use Rattle.jfs_pages_held.specs.Called.{DirtiesItsOwn, CalledLaw}
 use Rattle.jfs_pages_held.specs.Pages.{MayBeDirty, HasHomes, MapsStand, HasExtents, PagesKept}

@@ -22,11 +22,11 @@ use Rattle.jfs_joined_held.specs.held.specs.survival.specs.recovery.specs.crash_
 use Rattle.jfs_joined_held.specs.held.specs.Changes.{LeadsTo, next}
 use Rattle.jfs_joined_held.specs.held.specs.Held.{Mount, Held, IsHeld, newest_image}
 use Rattle.jfs_joined_held.specs.held.proofs.Played.{areas}
-use Rattle.jfs_volume.specs.data_steps.specs.objects.specs.Volume.{Volume}
-use Rattle.jfs_volume.specs.halves.specs.Both.{Changes}
-use Rattle.jfs_volume.specs.halves.specs.Change.{Enters}
-use Rattle.jfs_volume.specs.halves.specs.Entry.{Happened, edits}
-use Rattle.jfs_volume.specs.halves.specs.Half.{block_in}
+use Rattle.jfs_joined_held.specs.volume.specs.data_steps.specs.objects.specs.Volume.{Volume}
+use Rattle.jfs_joined_held.specs.volume.specs.halves.specs.Both.{Changes}
+use Rattle.jfs_joined_held.specs.volume.specs.halves.specs.Change.{Enters}
+use Rattle.jfs_joined_held.specs.volume.specs.halves.specs.Entry.{Happened, edits}
+use Rattle.jfs_joined_held.specs.volume.specs.halves.specs.Half.{block_in}
 use Rattle.jfs_pages_held.specs.Beside.{MarksStay, DirtyStays}
 use Rattle.jfs_pages_held.specs.Called.{EmptyLaw}
 use Rattle.jfs_pages_held.proofs.Entry.{dirty_then, touched_by, image_then}

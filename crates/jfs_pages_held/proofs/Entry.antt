@@ -28,12 +28,12 @@ use Rattle.jfs_joined_held.specs.held.specs.image_volumes.proofs.Read.{no_map_pa
 use Rattle.jfs_joined_held.specs.held.specs.Changes.{LeadsTo, next}
 use Rattle.jfs_joined_held.specs.held.specs.Held.{Mount, Held, IsHeld, face_at, newest_image}
 use Rattle.jfs_joined_held.specs.held.proofs.Played.{areas}
-use Rattle.jfs_volume.specs.data_steps.specs.objects.specs.Volume.{Volume}
-use Rattle.jfs_volume.specs.halves.specs.Both.{Changes}
-use Rattle.jfs_volume.specs.halves.specs.Change.{Enters}
-use Rattle.jfs_volume.specs.halves.specs.Entry.{Happened, edits}
-use Rattle.jfs_volume.specs.halves.specs.Half.{block_in}
-use Rattle.jfs_volume.specs.bmap.specs.MapFile.{pages_of, is_in_use}
+use Rattle.jfs_joined_held.specs.volume.specs.data_steps.specs.objects.specs.Volume.{Volume}
+use Rattle.jfs_joined_held.specs.volume.specs.halves.specs.Both.{Changes}
+use Rattle.jfs_joined_held.specs.volume.specs.halves.specs.Change.{Enters}
+use Rattle.jfs_joined_held.specs.volume.specs.halves.specs.Entry.{Happened, edits}
+use Rattle.jfs_joined_held.specs.volume.specs.halves.specs.Half.{block_in}
+use Rattle.jfs_joined_held.specs.volume.specs.bmap.specs.MapFile.{pages_of, is_in_use}
 
 -- ---- dirty pages of the half
 

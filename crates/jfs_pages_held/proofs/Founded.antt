@@ -8,11 +8,11 @@ use Rattle.jfs_joined_held.specs.held.specs.survival.specs.face.specs.Marks.{any
 use Rattle.jfs_joined_held.specs.held.specs.survival.specs.recovery.specs.Face.{Value}
 use Rattle.jfs_joined_held.specs.held.specs.survival.specs.recovery.specs.Face.Item.{ExtentPlace}
 use Rattle.jfs_joined_held.specs.held.specs.survival.specs.recovery.specs.Face.Value.{At}
-use Rattle.jfs_marks.specs.Founded.{and_extent, founded_with, founded_in}
-use Rattle.jfs_marks.specs.declared.founded.Founded.{Founded}
-use Rattle.jfs_marks.specs.declared.founded.NewExtent.{NewExtent}
-use Rattle.jfs_marks.specs.declared.founded.Founded.TheVariants.{Nothing, One, Several}
-use Rattle.jfs_marks.specs.steps.specs.After.{is_extent, place_in, four_from}
+use Rattle.jfs_joined_held.specs.entered.specs.marks.specs.Founded.{and_extent, founded_with, founded_in}
+use Rattle.jfs_joined_held.specs.entered.specs.marks.specs.declared.founded.Founded.{Founded}
+use Rattle.jfs_joined_held.specs.entered.specs.marks.specs.declared.founded.NewExtent.{NewExtent}
+use Rattle.jfs_joined_held.specs.entered.specs.marks.specs.declared.founded.Founded.TheVariants.{Nothing, One, Several}
+use Rattle.jfs_joined_held.specs.entered.specs.marks.specs.steps.specs.After.{is_extent, place_in, four_from}
 
 -- more edits after several leave several
 several : (es : List Edit) → founded_with es Several ≡ Several

@@ -10,11 +10,11 @@ use Rattle.jfs_joined_held.specs.held.specs.survival.specs.recovery.specs.crash_
 use Rattle.jfs_joined_held.specs.held.specs.Changes.{HasTheSame, next, leaving, after}
 use Rattle.jfs_joined_held.specs.held.specs.Held.{Mount, Held, face_at}
 use Rattle.jfs_joined_held.specs.held.proofs.Kept.{one}
-use Rattle.jfs_volume.specs.data_steps.specs.After.{is_put, EachOnce}
-use Rattle.jfs_volume.specs.data_steps.specs.declared.pages.DataPage.{DataPage}
-use Rattle.jfs_volume.specs.data_steps.specs.objects.specs.Volume.{Volume}
-use Rattle.jfs_volume.specs.halves.specs.Both.{BothChange, Changes, Fits}
-use Rattle.jfs_volume.specs.halves.specs.Change.{Writes}
+use Rattle.jfs_joined_held.specs.volume.specs.data_steps.specs.After.{is_put, EachOnce}
+use Rattle.jfs_joined_held.specs.volume.specs.data_steps.specs.declared.pages.DataPage.{DataPage}
+use Rattle.jfs_joined_held.specs.volume.specs.data_steps.specs.objects.specs.Volume.{Volume}
+use Rattle.jfs_joined_held.specs.volume.specs.halves.specs.Both.{BothChange, Changes, Fits}
+use Rattle.jfs_joined_held.specs.volume.specs.halves.specs.Change.{Writes}
 use Rattle.jfs_pages_held.specs.Homes.{homing, AreMapHomes, GoesHomeAlong, HomingLaw, TearLaw}
 
 pub itself : (v : Volume) → HasTheSame v v

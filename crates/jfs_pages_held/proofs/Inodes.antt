@@ -6,8 +6,8 @@ use Rattle.std.proofs.lemmas.List.FromFn.{get_or-map-range_with_len, length-map-
 use Rattle.jfs_bits.specs.declared.descriptor.Pxd.{Pxd}
 use Rattle.jfs_ranges.specs.declared.edit.Edit.{Edit}
 use Rattle.jfs_ranges.specs.Apply.{apply_tx}
-use Rattle.jfs_entered.proofs.Homes.{live_at}
-use Rattle.jfs_marks.specs.objects.proofs.Found.{no_home}
+use Rattle.jfs_joined_held.specs.entered.proofs.Homes.{live_at}
+use Rattle.jfs_joined_held.specs.entered.specs.marks.specs.objects.proofs.Found.{no_home}
 use Rattle.jfs_joined_held.specs.held.specs.image_volumes.proofs.Next.{in_areas}
 use Rattle.jfs_joined_held.specs.held.specs.image_volumes.proofs.Objects.{has_objects}
 use Rattle.jfs_joined_held.specs.held.specs.image_volumes.proofs.Read.{no_map_page}
@@ -24,9 +24,9 @@ use Rattle.jfs_joined_held.specs.held.specs.survival.specs.recovery.specs.kinds.
 use Rattle.jfs_joined_held.specs.held.specs.survival.specs.recovery.specs.kinds.specs.Owner.{owner_of}
 use Rattle.jfs_joined_held.specs.held.specs.survival.specs.recovery.specs.kinds.specs.Owner.Owner.{Area, Inodes as InodesOwn}
 use Rattle.jfs_joined_held.specs.held.specs.Held.{Mount, IsImageAt, face_at}
-use Rattle.jfs_volume.specs.data_steps.specs.objects.specs.Image.{extent_place}
-use Rattle.jfs_volume.specs.data_steps.specs.objects.specs.Objects.{Object, objects, is_live}
-use Rattle.jfs_volume.specs.data_steps.specs.objects.specs.Volume.{Volume, home, page_in, slot_of}
+use Rattle.jfs_joined_held.specs.volume.specs.data_steps.specs.objects.specs.Image.{extent_place}
+use Rattle.jfs_joined_held.specs.volume.specs.data_steps.specs.objects.specs.Objects.{Object, objects, is_live}
+use Rattle.jfs_joined_held.specs.volume.specs.data_steps.specs.objects.specs.Volume.{Volume, home, page_in, slot_of}
 use Rattle.jfs_iag.specs.Iag.{no_run}
 
 -- ---- where the items say that an inode stands

@@ -10,10 +10,10 @@ use Rattle.jfs_joined_held.specs.held.specs.survival.specs.recovery.specs.kinds.
 use Rattle.jfs_joined_held.specs.held.specs.survival.specs.recovery.specs.kinds.specs.Owner.{Owner, owner_of, is_logged}
 use Rattle.jfs_joined_held.specs.held.specs.Changes.{MayLeave}
 use Rattle.jfs_joined_held.specs.held.specs.Held.{Mount, Held, IsImageAt, newest_image}
-use Rattle.jfs_volume.specs.data_steps.specs.objects.specs.Objects.{Object}
-use Rattle.jfs_volume.specs.data_steps.specs.objects.specs.Owners.{owners, bit, IsSound}
-use Rattle.jfs_volume.specs.data_steps.specs.objects.specs.Readers.{Readers}
-use Rattle.jfs_volume.specs.data_steps.specs.objects.specs.Volume.{Volume}
+use Rattle.jfs_joined_held.specs.volume.specs.data_steps.specs.objects.specs.Objects.{Object}
+use Rattle.jfs_joined_held.specs.volume.specs.data_steps.specs.objects.specs.Owners.{owners, bit, IsSound}
+use Rattle.jfs_joined_held.specs.volume.specs.data_steps.specs.objects.specs.Readers.{Readers}
+use Rattle.jfs_joined_held.specs.volume.specs.data_steps.specs.objects.specs.Volume.{Volume}
 use Rattle.jfs_pages_held.specs.Homes.{LeaveLaw, SameButMaps, MapsLaw}
 use Rattle.jfs_pages_held.specs.Pages.{MayBeDirty}
 

@@ -9,25 +9,25 @@ use Rattle.jfs_bits.proofs.Buds.{any_below-from, any_below-none}
 use Rattle.jfs_iag.specs.Canonical.{has_free_inode, has_free_place}
 use Rattle.jfs_iag.specs.Iag.{no_run}
 use Rattle.jfs_ranges.specs.declared.edit.Edit.{Edit}
-use Rattle.jfs_entered.proofs.InUse.{taken_fresh, taken_live, freed_live, freed_dead, inodes_law}
-use Rattle.jfs_entered.proofs.Small.{last_extents}
-use Rattle.jfs_entered.specs.Marked.{HasMarks, IsMapAfter}
-use Rattle.jfs_marks.proofs.Fitted.{IsFoundedAs, says, lowest_is}
-use Rattle.jfs_marks.specs.Changes.{tx_changes}
-use Rattle.jfs_marks.specs.Founded.{founded_in}
-use Rattle.jfs_marks.specs.Marks.{IsExtended, AreMarked, with_taken_if, with_freed_if}
-use Rattle.jfs_marks.specs.declared.changes.Changes.{Changes}
-use Rattle.jfs_marks.specs.declared.founded.Founded.{Founded}
-use Rattle.jfs_marks.specs.declared.founded.NewExtent.{NewExtent}
-use Rattle.jfs_marks.specs.declared.founded.Founded.TheVariants as founded
-use Rattle.jfs_marks.specs.declared.marks.InodeMarks.{InodeMarks}
-use Rattle.jfs_marks.specs.data_steps.specs.After.{after_writes}
-use Rattle.jfs_marks.specs.data_steps.specs.declared.pages.DataPage.{DataPage}
-use Rattle.jfs_marks.specs.imap.specs.Inodes.{Inodes, is_used, extent_at}
-use Rattle.jfs_marks.specs.objects.specs.Objects.{Object, objects}
-use Rattle.jfs_marks.specs.objects.specs.Volume.{Volume}
-use Rattle.jfs_marks.specs.records.specs.declared.note.Note.{Note}
-use Rattle.jfs_marks.specs.steps.specs.After.{four_from}
+use Rattle.jfs_joined_held.specs.entered.proofs.InUse.{taken_fresh, taken_live, freed_live, freed_dead, inodes_law}
+use Rattle.jfs_joined_held.specs.entered.proofs.Small.{last_extents}
+use Rattle.jfs_joined_held.specs.entered.specs.Marked.{HasMarks, IsMapAfter}
+use Rattle.jfs_joined_held.specs.entered.specs.marks.proofs.Fitted.{IsFoundedAs, says, lowest_is}
+use Rattle.jfs_joined_held.specs.entered.specs.marks.specs.Changes.{tx_changes}
+use Rattle.jfs_joined_held.specs.entered.specs.marks.specs.Founded.{founded_in}
+use Rattle.jfs_joined_held.specs.entered.specs.marks.specs.Marks.{IsExtended, AreMarked, with_taken_if, with_freed_if}
+use Rattle.jfs_joined_held.specs.entered.specs.marks.specs.declared.changes.Changes.{Changes}
+use Rattle.jfs_joined_held.specs.entered.specs.marks.specs.declared.founded.Founded.{Founded}
+use Rattle.jfs_joined_held.specs.entered.specs.marks.specs.declared.founded.NewExtent.{NewExtent}
+use Rattle.jfs_joined_held.specs.entered.specs.marks.specs.declared.founded.Founded.TheVariants as founded
+use Rattle.jfs_joined_held.specs.entered.specs.marks.specs.declared.marks.InodeMarks.{InodeMarks}
+use Rattle.jfs_joined_held.specs.entered.specs.marks.specs.data_steps.specs.After.{after_writes}
+use Rattle.jfs_joined_held.specs.entered.specs.marks.specs.data_steps.specs.declared.pages.DataPage.{DataPage}
+use Rattle.jfs_joined_held.specs.entered.specs.marks.specs.imap.specs.Inodes.{Inodes, is_used, extent_at}
+use Rattle.jfs_joined_held.specs.entered.specs.marks.specs.objects.specs.Objects.{Object, objects}
+use Rattle.jfs_joined_held.specs.entered.specs.marks.specs.objects.specs.Volume.{Volume}
+use Rattle.jfs_joined_held.specs.entered.specs.marks.specs.records.specs.declared.note.Note.{Note}
+use Rattle.jfs_joined_held.specs.entered.specs.marks.specs.steps.specs.After.{four_from}
 use Rattle.jfs_room.specs.bmap.specs.States.{Blocks}
 use Rattle.jfs_room.specs.meaning.specs.Readers.{readers}
 use Rattle.jfs_room.specs.way.specs.Volume.{volume_of}
@@ -40,7 +40,7 @@ use Rattle.jfs_joined_held.specs.held.specs.survival.specs.recovery.specs.Face.{
 use Rattle.jfs_joined_held.specs.held.specs.survival.specs.recovery.specs.Face.Item.{ExtentPlace}
 use Rattle.jfs_joined_held.specs.held.specs.survival.specs.recovery.specs.Face.Value.{At}
 use Rattle.jfs_joined_held.specs.held.specs.Held.{Mount, IsImageAt, face_at}
-use Rattle.jfs_volume.specs.Stale.{changes_inodes}
+use Rattle.jfs_joined_held.specs.volume.specs.Stale.{changes_inodes}
 use Rattle.jfs_pages_held.specs.Pages.{HasExtents}
 use Rattle.jfs_pages_held.proofs.Founded.{placed, none_put, puts_one}
 use Rattle.jfs_pages_held.proofs.Inodes.{own_used, item_then, used_then, then_in_room, before_in_room}

@@ -2,8 +2,8 @@
 use Rattle.std.proofs.Common.{◌≡◌, ◌⊎◌, ℕ, false, inl, inr}
 use Rattle.jfs_joined_held.specs.held.specs.survival.specs.logged.proofs.Own.{own_law as logged_law}
 use Rattle.jfs_joined_held.specs.held.specs.survival.specs.logged.specs.Own.{IsKeptOrData}
-use Rattle.jfs_volume.specs.data_steps.specs.objects.specs.Readers.{Readers}
-use Rattle.jfs_volume.specs.data_steps.specs.objects.specs.Volume.{Volume}
+use Rattle.jfs_joined_held.specs.volume.specs.data_steps.specs.objects.specs.Readers.{Readers}
+use Rattle.jfs_joined_held.specs.volume.specs.data_steps.specs.objects.specs.Volume.{Volume}
 use Rattle.jfs_pages_held.specs.Called.{OwnLaw}
 use Rattle.jfs_pages_held.specs.Pages.{MayBeDirty}
 

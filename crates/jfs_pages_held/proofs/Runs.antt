@@ -5,9 +5,9 @@ use Rattle.jfs_bits.specs.declared.descriptor.Pxd.{Pxd}
 use Rattle.jfs_ranges.specs.declared.edit.Edit.{Edit}
 use Rattle.jfs_ranges.specs.declared.edit.Edit.TheVariants.{Lines, NoRedo, Alloc, Free}
 use Rattle.jfs_joined_held.specs.held.specs.survival.specs.MapMarks.{has_run, block_map_changes}
-use Rattle.jfs_volume.specs.Runs.{taken_by, freed_by, taken_in, freed_in}
-use Rattle.jfs_volume.specs.Stale.{changes_blocks}
-use Rattle.jfs_volume.specs.records.specs.Marks.{is_new_extent}
+use Rattle.jfs_joined_held.specs.volume.specs.Runs.{taken_by, freed_by, taken_in, freed_in}
+use Rattle.jfs_joined_held.specs.volume.specs.Stale.{changes_blocks}
+use Rattle.jfs_joined_held.specs.volume.specs.records.specs.Marks.{is_new_extent}
 
 abbrev some_of : List Pxd → Bool
 some_of runs = not (length runs == 0)

@@ -14,11 +14,11 @@ use Rattle.jfs_joined_held.specs.held.specs.survival.specs.recovery.specs.kinds.
 use Rattle.jfs_joined_held.specs.held.specs.survival.proofs.Seen.{seen_law}
 use Rattle.jfs_joined_held.specs.held.specs.Held.{Mount, IsImageAt}
 use Rattle.jfs_joined_held.specs.Held.{volume_at}
-use Rattle.jfs_volume.specs.data_steps.specs.objects.specs.Owners.{IsSound}
-use Rattle.jfs_volume.specs.data_steps.specs.objects.specs.Readers.{Readers}
-use Rattle.jfs_volume.specs.data_steps.specs.objects.specs.Volume.{Volume}
-use Rattle.jfs_volume.specs.map_files.specs.declared.map_file.MapFiles.{MapFiles}
-use Rattle.jfs_volume.specs.map_files.specs.imap.specs.Inodes.{Inodes, extent_at}
+use Rattle.jfs_joined_held.specs.volume.specs.data_steps.specs.objects.specs.Owners.{IsSound}
+use Rattle.jfs_joined_held.specs.volume.specs.data_steps.specs.objects.specs.Readers.{Readers}
+use Rattle.jfs_joined_held.specs.volume.specs.data_steps.specs.objects.specs.Volume.{Volume}
+use Rattle.jfs_joined_held.specs.volume.specs.map_files.specs.declared.map_file.MapFiles.{MapFiles}
+use Rattle.jfs_joined_held.specs.volume.specs.map_files.specs.imap.specs.Inodes.{Inodes, extent_at}
 use Rattle.jfs_pages_held.specs.Pages.{MayBeDirty, PagesKept}
 use Rattle.jfs_pages_held.specs.Beside.{StayLaw}
 

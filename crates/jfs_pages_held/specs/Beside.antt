@@ -5,11 +5,11 @@ use Rattle.jfs_joined_held.specs.held.specs.survival.specs.recovery.specs.Core.{
 use Rattle.jfs_joined_held.specs.held.specs.Changes.{Made, after, AllMay}
 use Rattle.jfs_joined_held.specs.held.specs.Held.{Mount, Held, IsHeld}
 use Rattle.jfs_joined_held.specs.Held.{IsHeldAs}
-use Rattle.jfs_volume.specs.data_steps.specs.objects.specs.Volume.{Volume}
-use Rattle.jfs_volume.specs.halves.specs.Both.{BothChange, Changes}
-use Rattle.jfs_volume.specs.halves.specs.Change.{Change, Enters, Writes, after as after_changes}
-use Rattle.jfs_volume.specs.halves.specs.Half.{VolumeHalf, Halves, block_in}
-use Rattle.jfs_volume.specs.halves.specs.Parts.{Parts}
+use Rattle.jfs_joined_held.specs.volume.specs.data_steps.specs.objects.specs.Volume.{Volume}
+use Rattle.jfs_joined_held.specs.volume.specs.halves.specs.Both.{BothChange, Changes}
+use Rattle.jfs_joined_held.specs.volume.specs.halves.specs.Change.{Change, Enters, Writes, after as after_changes}
+use Rattle.jfs_joined_held.specs.volume.specs.halves.specs.Half.{VolumeHalf, Halves, block_in}
+use Rattle.jfs_joined_held.specs.volume.specs.halves.specs.Parts.{Parts}
 use Rattle.jfs_pages_held.specs.Pages.{PagesKept}
 
 -- The newest image stays, and so does which pages of the maps are dirty.

@@ -10,17 +10,17 @@ use Rattle.jfs_joined_held.specs.held.specs.Held.{Mount, Held, IsHeld}
 use Rattle.jfs_joined_held.specs.held_calls.specs.Calls.{made_by}
 use Rattle.jfs_joined_held.specs.Called.{volume_then, IsAnswered, IsRunOfCall}
 use Rattle.jfs_joined_held.specs.Held.{volume_at, held_at, IsHeldAs}
-use Rattle.jfs_volume.specs.Called.{JoinsWith}
-use Rattle.jfs_volume.specs.data_steps.specs.After.{with_data}
-use Rattle.jfs_volume.specs.data_steps.specs.declared.pages.DataPage.{DataPage}
-use Rattle.jfs_volume.specs.data_steps.specs.objects.specs.Readers.{Readers}
-use Rattle.jfs_volume.specs.data_steps.specs.objects.specs.Volume.{Volume}
-use Rattle.jfs_volume.specs.halves.specs.Both.{Changes}
-use Rattle.jfs_volume.specs.halves.specs.Change.{Enters}
-use Rattle.jfs_volume.specs.halves.specs.Entry.{Happened, edits}
-use Rattle.jfs_volume.specs.halves.specs.Half.{Halves}
-use Rattle.jfs_volume.specs.halves.specs.Parts.{Parts}
-use Rattle.jfs_volume.specs.plain.specs.declared.call.Entry.{Entry}
+use Rattle.jfs_joined_held.specs.volume.specs.Called.{JoinsWith}
+use Rattle.jfs_joined_held.specs.volume.specs.data_steps.specs.After.{with_data}
+use Rattle.jfs_joined_held.specs.volume.specs.data_steps.specs.declared.pages.DataPage.{DataPage}
+use Rattle.jfs_joined_held.specs.volume.specs.data_steps.specs.objects.specs.Readers.{Readers}
+use Rattle.jfs_joined_held.specs.volume.specs.data_steps.specs.objects.specs.Volume.{Volume}
+use Rattle.jfs_joined_held.specs.volume.specs.halves.specs.Both.{Changes}
+use Rattle.jfs_joined_held.specs.volume.specs.halves.specs.Change.{Enters}
+use Rattle.jfs_joined_held.specs.volume.specs.halves.specs.Entry.{Happened, edits}
+use Rattle.jfs_joined_held.specs.volume.specs.halves.specs.Half.{Halves}
+use Rattle.jfs_joined_held.specs.volume.specs.halves.specs.Parts.{Parts}
+use Rattle.jfs_joined_held.specs.volume.specs.plain.specs.declared.call.Entry.{Entry}
 use Rattle.jfs_pages_held.specs.Beside.{MarksStay, DirtyStays, KeepsFiles}
 use Rattle.jfs_pages_held.specs.Pages.{MayBeDirty, PagesKept}
 

@@ -8,17 +8,17 @@ use Rattle.jfs_joined_held.specs.held.specs.survival.specs.recovery.specs.Core.{
 use Rattle.jfs_joined_held.specs.held.specs.Changes.{MayLeave, MayChange, leaving, after, AllMay}
 use Rattle.jfs_joined_held.specs.held.specs.Held.{Mount, Held, IsHeld, face_at, newest_image}
 use Rattle.jfs_joined_held.specs.Held.{IsHeldAs}
-use Rattle.jfs_volume.specs.Written.{writes}
-use Rattle.jfs_volume.specs.bmap.specs.MapFile.{is_in_use, IsMapPage}
-use Rattle.jfs_volume.specs.bmap.specs.States.{is_owned}
-use Rattle.jfs_volume.specs.data_steps.specs.After.{is_put, EachOnce}
-use Rattle.jfs_volume.specs.data_steps.specs.declared.pages.DataPage.{DataPage}
-use Rattle.jfs_volume.specs.data_steps.specs.objects.specs.Volume.{Volume}
-use Rattle.jfs_volume.specs.halves.specs.Both.{BothChange, Changes, FitAll}
-use Rattle.jfs_volume.specs.halves.specs.Change.{WriteTears}
-use Rattle.jfs_volume.specs.halves.specs.Half.{Halves, block_in}
-use Rattle.jfs_volume.specs.halves.specs.Parts.{Parts}
-use Rattle.jfs_volume.specs.map_files.specs.imap.specs.Inodes.{IsInodePage}
+use Rattle.jfs_joined_held.specs.volume.specs.Written.{writes}
+use Rattle.jfs_joined_held.specs.volume.specs.bmap.specs.MapFile.{is_in_use, IsMapPage}
+use Rattle.jfs_joined_held.specs.volume.specs.bmap.specs.States.{is_owned}
+use Rattle.jfs_joined_held.specs.volume.specs.data_steps.specs.After.{is_put, EachOnce}
+use Rattle.jfs_joined_held.specs.volume.specs.data_steps.specs.declared.pages.DataPage.{DataPage}
+use Rattle.jfs_joined_held.specs.volume.specs.data_steps.specs.objects.specs.Volume.{Volume}
+use Rattle.jfs_joined_held.specs.volume.specs.halves.specs.Both.{BothChange, Changes, FitAll}
+use Rattle.jfs_joined_held.specs.volume.specs.halves.specs.Change.{WriteTears}
+use Rattle.jfs_joined_held.specs.volume.specs.halves.specs.Half.{Halves, block_in}
+use Rattle.jfs_joined_held.specs.volume.specs.halves.specs.Parts.{Parts}
+use Rattle.jfs_joined_held.specs.volume.specs.map_files.specs.imap.specs.Inodes.{IsInodePage}
 use Rattle.jfs_pages_held.specs.Pages.{HasHomes, PagesKept}
 
 -- ---- dirty pages

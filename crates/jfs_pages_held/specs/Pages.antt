@@ -9,12 +9,12 @@ use Rattle.jfs_joined_held.specs.held.specs.survival.specs.recovery.specs.Face.{
 use Rattle.jfs_joined_held.specs.held.specs.Changes.{IsFileData}
 use Rattle.jfs_joined_held.specs.held.specs.Held.{Mount}
 use Rattle.jfs_joined_held.specs.Held.{volume_at}
-use Rattle.jfs_volume.specs.bmap.specs.MapFile.{is_in_use}
-use Rattle.jfs_volume.specs.data_steps.specs.objects.specs.Readers.{Readers}
-use Rattle.jfs_volume.specs.data_steps.specs.objects.specs.Volume.{Volume}
-use Rattle.jfs_volume.specs.halves.specs.Half.{VolumeHalf, Halves, block_in}
-use Rattle.jfs_volume.specs.halves.specs.Parts.{Parts}
-use Rattle.jfs_volume.specs.map_files.specs.imap.specs.Inodes.{Inodes, extent_at}
+use Rattle.jfs_joined_held.specs.volume.specs.bmap.specs.MapFile.{is_in_use}
+use Rattle.jfs_joined_held.specs.volume.specs.data_steps.specs.objects.specs.Readers.{Readers}
+use Rattle.jfs_joined_held.specs.volume.specs.data_steps.specs.objects.specs.Volume.{Volume}
+use Rattle.jfs_joined_held.specs.volume.specs.halves.specs.Half.{VolumeHalf, Halves, block_in}
+use Rattle.jfs_joined_held.specs.volume.specs.halves.specs.Parts.{Parts}
+use Rattle.jfs_joined_held.specs.volume.specs.map_files.specs.imap.specs.Inodes.{Inodes, extent_at}
 
 -- ---- dirty pages
 

@@ -20,3 +20,4 @@ pub mod Meanwhile
 pub mod Named
 pub mod Apart
 pub mod FileData
+pub mod Chosen

@@ -291,14 +291,29 @@ module _ (s : Super) (txs : List (List Edit)) (old left : Image) (sizes : ArePag
 pub stopped_redo : StoppedRedo
 stopped_redo s txs old left sizes accepted committed was_unbroken apart way = taken_up s txs old left sizes accepted committed was_unbroken apart way
 
--- ---- pages that no line of the log counts for
+-- ---- pages that redo leaves
 
-pub others_stay : OthersStay
-others_stay s txs old left sizes accepted either p none out other = by either
+-- A page that its lines make what it was, of no map and not the superblock's, is as it was at each moment.
+pub page_stays : (s : Super) (txs : List (List Edit)) (old left : Image) → IsPartlyRedone s txs old left ⊎ IsRedone s txs old left → (p : ℕ) → (p < blocks_of s → length (page_of old p) ≡ 4096)
+    → redone_page (blocks_of s) (all_of txs) old p ≡ page_of old p → (IsMapPlace (subject_of s (page_of old)) p → ⊥) → (p ≡ 8 → ⊥) → page_of left p ≡ page_of old p
+page_stays s txs old left either p size not_changed out other = by either
   where
-    blocks : ℕ
-    blocks = blocks_of s
+    only : (page : List ℕ) → Writes s txs old p page → page ≡ page_of old p
+    only page (inl is) = is ∙ not_changed
+    only page (inr (inl (k, low, at, is))) = absurd (out (inl (k, low, at)))
+    only page (inr (inr (k, low, at, is))) = absurd (out (inr (k, low, at)))
 
+    by : IsPartlyRedone s txs old left ⊎ IsRedone s txs old left → page_of left p ≡ page_of old p
+    by (inl way) = elim (cases_lt p (blocks_of s)) [
+      | inl low ↦ mixed_same (Writes s txs old p) (page_of old p) (size low) (page_of left p) only (way.pages p low)
+      | inr high ↦ way.others p high
+    ]
+    by (inr is) = is.rest p other ∙ is.others p out ∙ is.pages.pages p ∙ not_changed
+
+-- so is one that no line of the log counts for
+pub others_stay : OthersStay
+others_stay s txs old left sizes accepted either p none out other = page_stays s txs old left either p (λ low. sizes.sizes p (omega (arith, low, whole))) not_changed out other
+  where
     whole : blocks_of s ≤ length old
     whole = let ends = accepted_log s (length old) accepted in let behind = (accepted_layout s (length old) accepted).behind in omega (arith, ends, behind)
 
@@ -307,15 +322,3 @@ others_stay s txs old left sizes accepted either p none out other = by either
       | inl low ↦ cond-true (nat_lt p (blocks_of s)) (redone p (page_of old p) (page_of old p) (all_of txs)) (page_of old p) (lt-ltb p (blocks_of s) low) ∙ unnamed p (page_of old p) (all_of txs) none
       | inr high ↦ cond-false (nat_lt p (blocks_of s)) (redone p (page_of old p) (page_of old p) (all_of txs)) (page_of old p) (le-ltb p (blocks_of s) high)
     ]
-
-    only : (page : List ℕ) → Writes s txs old p page → page ≡ page_of old p
-    only page (inl is) = is ∙ not_changed
-    only page (inr (inl (k, low, at, is))) = absurd (out (inl (k, low, at)))
-    only page (inr (inr (k, low, at, is))) = absurd (out (inr (k, low, at)))
-
-    by : IsPartlyRedone s txs old left ⊎ IsRedone s txs old left → page_of left p ≡ page_of old p
-    by (inl way) = elim (cases_lt p (blocks_of s)) [
-      | inl low ↦ mixed_same (Writes s txs old p) (page_of old p) (sizes.sizes p (omega (arith, low, whole))) (page_of left p) only (way.pages p low)
-      | inr high ↦ way.others p high
-    ]
-    by (inr is) = is.rest p other ∙ is.others p out ∙ is.pages.pages p ∙ not_changed

@@ -6,6 +6,7 @@ use Rattle.jfs_disk.specs.Image.{Image}
 use Rattle.jfs_disk.specs.declared.disk.Part.TheVariants.{Whole}
 use Rattle.jfs_ranges.specs.declared.edit.Edit.{Edit}
 use Rattle.jfs_ranges.specs.declared.edit.Edit.TheVariants.{Lines, NoRedo, Alloc, Free}
+use Rattle.jfs_logfmt.specs.declared.log_record.Record.{Record}
 use Rattle.jfs_logpages.specs.Back.{Met}
 use Rattle.jfs_logpages.specs.ReadLog.{IsReadAs, IsNotOwn, BreaksLog}
 use Rattle.jfs_logpages.specs.declared.ring_text.RingText.{RingText}
@@ -15,6 +16,12 @@ use Rattle.jfs_records.specs.Committed.{committed}
 use Rattle.jfs_redo_steps.specs.steps.specs.After.{is_extent}
 use Rattle.jfs_redo.specs.declared.error.RedoError.{RedoError}
 use Rattle.jfs_redo.specs.declared.error.RedoError.TheVariants.{Disk, ForeignLog, BadLog, BadImage, Memory}
+
+-- The records are those of the log's text, the oldest first, from the place on that its newest SYNCPT gives.
+pub record AreLogRecords (pages blocks : ℕ) (log : Image) (records : List Record) : Type 0 where
+  pub read : RingText
+  pub reads : IsReadAs pages blocks log read
+  pub are : records ≡ map (λ (m : Met). m.is) (reads.m ∷ reads.ms)
 
 -- The transactions are those that the records of the log's text commit, from the place on that its newest SYNCPT gives.
 pub record AreCommitted (pages blocks : ℕ) (log : Image) (txs : List (List Edit)) : Type 0 where

@@ -1,12 +1,18 @@
-//! What a redone volume follows from.
+//! What a redone volume follows from, and what its pages are.
 
-ghost use Rattle.jfs_redo.specs.Laws.{RedoneAgree};
+ghost use Rattle.jfs_redo.specs.Laws.{RedoneAgree, RedoneIsChoice};
 ghost use Rattle.jfs_redo.specs.Partly.{StoppedRedo, OthersStay};
 ghost use Rattle.jfs_redo.specs.Apart.{StandApart, NameOnce, DataStays};
 
 /// What redo makes of a volume is one thing: each of its pages follows from the pages that it had and from the transactions.
 pub fn redone_volumes_agree()
     ensures { RedoneAgree }
+{}
+
+/// What redo makes of a page is a choice, cell by cell of 16 bytes: a redone page has, in each cell, the bytes of the last committed line that covers it and that no NOREDOPAGE of its page follows; where there is none, it has those that it had.
+/// The maps' pages and the superblock's are no such choice: redo makes them anew.
+pub fn redone_pages_are_a_choice()
+    ensures { RedoneIsChoice }
 {}
 
 /// A volume that a stopped redo left is taken up again: it has the superblock and the log that it had, redo refuses it by nothing, counts the same transactions, and makes of it what it makes of the volume as it was. That holds however often a redo is stopped.

@@ -11,7 +11,7 @@ mod state;
 
 pub use error::{RedoError, Redone};
 pub use law::{
-    maps_stand_apart, redo_leaves_file_data, redo_leaves_other_pages, redone_volumes_agree,
-    stopped_redo_is_taken_up,
+    maps_stand_apart, redo_leaves_file_data, redo_leaves_other_pages, redone_pages_are_a_choice,
+    redone_volumes_agree, stopped_redo_is_taken_up,
 };
 pub use redoing::redo;

@@ -42,8 +42,11 @@ use std::alloc::Global;
 /// Redoes the volume of a disk in state 1, whose superblock is the one given, by its log: each page is what the committed transactions make of it, both maps follow from what they take and free and
 /// from the inodes' link counts, and the superblock has state 0. The log and all that isn't redone stay as they were. (JFS Log, log redo.)
 ///
-/// The log is read whole and the maps' rules are looked at before anything is written. It takes the log's text from the place on that its newest SYNCPT gives, 16 bytes for each page that an edit of it
-/// changes or frees, a bit for each block and each inode, and 21 bytes for each place of an inode extent. Its work grows with that text and with the volume's maps and inodes.
+/// The log is read whole and the maps' rules are looked at before anything is written. Its work grows with the log's text and with the volume's maps and inodes.
+///
+/// It takes the text of the log's newer half, and the records in it from the place on that the newest SYNCPT gives; then, once the text is given back, these records and their transactions; then the
+/// transactions alone, with 16 bytes for each page that an edit of them changes or frees, a bit for each block and each inode, and 21 bytes for each place of an inode extent. So text and transactions
+/// are never there at once. Pages come and go through one buffer.
 ///
 /// # Errors
 ///

@@ -32,6 +32,7 @@ module _ (tells crashes : Type 0) (told : tells) where
     each = j.each;
     notes_are = λ t. j.notes_are told;
     loggable = j.loggable;
+    room = j.room;
     marks_are = λ t. j.marks_are told;
     behind = j.behind;
     gone = j.gone;
@@ -59,7 +60,7 @@ module _ (tells crashes : Type 0) (told : tells) where
   pub told_called : (entry : Entry) (tx : List Edit) (put : List DataPage) (old new : Parts) (called : Called) → CallIs tells crashes entry tx put old new called → CallIs ⊤ ⊥ entry tx put old new called
   unfolding told_joins
   told_called entry tx put old new (Entered number) j = record { joins = told_joins entry tx put number old new j.joins; writable = j.writable; moves = λ now seen asked t c. j.moves now seen asked (λ e. told) (λ e. absurd (c e)) }
-  told_called entry tx put old new NoRoom (back, on, full) = (back, told_on old new on, full)
+  told_called entry tx put old new NoRoom (back, on, lacks) = (back, told_on old new on, record { notes = lacks.notes; each = lacks.each; notes_are = λ t. lacks.notes_are told; full = lacks.full })
   told_called entry tx put old new NoMemory (back, on) = (back, told_on old new on)
   told_called entry tx put old new Unfit (back, on, why) = (back, told_on old new on, told_unfit tx put old why)
   told_called entry tx put old new (Failed fault) (back, fails) = (back, record { is_fault = fails.is_fault; fails = by fails.fails })

@@ -16,7 +16,7 @@ pub use law::{
 pub mod call {
     //! Passed on from `jfs_call`.
 
-    pub use jfs_call::{Outcome, call_with_log};
+    pub use jfs_call::{Outcome, call_without_log};
 }
 
 pub mod volume_calls {

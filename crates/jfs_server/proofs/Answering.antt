@@ -7,12 +7,12 @@ use Rattle.jfs_plain.specs.declared.call.Call.{Call}
 use Rattle.jfs_plain.specs.declared.call.Call.TheVariants as calls
 use Rattle.jfs_plain.specs.declared.call.Request.{Request}
 use Rattle.jfs_plain.specs.declared.reply.Reply.{Reply}
-use Rattle.jfs_legal.specs.served.specs.call.specs.Answer as answer
-use Rattle.jfs_legal.specs.served.specs.call.specs.Answer.{IsAnswered}
-use Rattle.jfs_legal.specs.served.specs.call.specs.declared.outcome.Outcome.{Outcome}
-use Rattle.jfs_legal.specs.served.specs.call.specs.declared.outcome.Outcome.TheVariants as outcomes
-use Rattle.jfs_legal.specs.served.specs.files.specs.Written.{renames}
-use Rattle.jfs_legal.specs.served.specs.halves.specs.Parts.{Parts}
+use Rattle.jfs_shared.specs.legal.specs.served.specs.call.specs.Answer as answer
+use Rattle.jfs_shared.specs.legal.specs.served.specs.call.specs.Answer.{IsAnswered}
+use Rattle.jfs_shared.specs.legal.specs.served.specs.call.specs.declared.outcome.Outcome.{Outcome}
+use Rattle.jfs_shared.specs.legal.specs.served.specs.call.specs.declared.outcome.Outcome.TheVariants as outcomes
+use Rattle.jfs_shared.specs.legal.specs.served.specs.files.specs.Written.{renames}
+use Rattle.jfs_shared.specs.legal.specs.served.specs.halves.specs.Parts.{Parts}
 use Rattle.jfs_serving.specs.Calls as serving
 use Rattle.jfs_serving.specs.Calls.{asked, is_rename}
 use Rattle.jfs_shared.specs.Calls as shared

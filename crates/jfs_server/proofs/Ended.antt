@@ -16,13 +16,13 @@ use Rattle.jfs_plain.specs.declared.call.Entry.{Entry}
 use Rattle.jfs_groups.specs.Points.{is_marked}
 use Rattle.jfs_groups.specs.Start.{Grows}
 use Rattle.jfs_groups.specs.declared.log.SharedLog.{SharedLog}
-use Rattle.jfs_legal.proofs.Going.{handed_law}
-use Rattle.jfs_legal.proofs.Over.{over_handed_law}
-use Rattle.jfs_legal.specs.served.specs.crash_core.specs.Step.{halted_by}
-use Rattle.jfs_legal.specs.served.specs.halves.specs.Parts.{Parts}
-use Rattle.jfs_legal.specs.served.specs.shown.specs.meaning.specs.Image.{volume_of}
+use Rattle.jfs_shared.specs.legal.proofs.Going.{handed_law}
+use Rattle.jfs_shared.specs.legal.proofs.Over.{over_handed_law}
+use Rattle.jfs_shared.specs.legal.specs.served.specs.crash_core.specs.Step.{halted_by}
+use Rattle.jfs_shared.specs.legal.specs.served.specs.halves.specs.Parts.{Parts}
+use Rattle.jfs_shared.specs.legal.specs.served.specs.shown.specs.meaning.specs.Image.{volume_of}
 use Rattle.jfs_volume_calls.proofs.Kept.{group_settles, group_pages}
-use Rattle.jfs_legal.specs.served.specs.unmount.specs.Unmount.{IsAllHome}
+use Rattle.jfs_shared.specs.legal.specs.served.specs.unmount.specs.Unmount.{IsAllHome}
 use Rattle.jfs_shared.specs.kept_history.specs.Unmounted.{LeavesKeepable}
 use Rattle.jfs_shared.specs.kept_history.proofs.Unmounts.{unmounted_again_law}
 use Rattle.jfs_shared.specs.Base.{MountStart, start_of, image_of}

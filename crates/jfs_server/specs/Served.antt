@@ -3,9 +3,9 @@ use Rattle.std.specs.Prelude.{ℕ}
 use Rattle.jfs_bits.specs.declared.descriptor.Moment.{Moment}
 use Rattle.jfs_disk.specs.declared.disk.Disk.{Ghosts}
 use Rattle.jfs_groups.specs.declared.log.SharedLog.{SharedLog}
-use Rattle.jfs_legal.specs.served.specs.call.specs.Answer.{IsAnswered}
-use Rattle.jfs_legal.specs.served.specs.call.specs.declared.outcome.Outcome.{Outcome}
-use Rattle.jfs_legal.specs.served.specs.call.specs.declared.outcome.Outcome.TheVariants as outcomes
+use Rattle.jfs_shared.specs.legal.specs.served.specs.call.specs.Answer.{IsAnswered}
+use Rattle.jfs_shared.specs.legal.specs.served.specs.call.specs.declared.outcome.Outcome.{Outcome}
+use Rattle.jfs_shared.specs.legal.specs.served.specs.call.specs.declared.outcome.Outcome.TheVariants as outcomes
 use Rattle.jfs_plain.specs.declared.call.Entry.{Entry}
 use Rattle.jfs_serving.specs.Calls.{Asked}
 use Rattle.jfs_serving.specs.declared.serves.Given.{Given}

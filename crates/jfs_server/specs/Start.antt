@@ -5,8 +5,8 @@ use Rattle.jfs_disk.specs.Image.{Image}
 use Rattle.jfs_disk.specs.declared.disk.Disk.{Ghosts}
 use Rattle.jfs_super.specs.declared.fields.Super.{Super}
 use Rattle.jfs_groups.specs.declared.log.SharedLog.{SharedLog}
-use Rattle.jfs_legal.specs.served.specs.mounted.specs.declared.mounted.Mounted.{Mounted}
-use Rattle.jfs_legal.specs.served.specs.volume_calls.specs.Together.{log_parts}
+use Rattle.jfs_shared.specs.legal.specs.served.specs.mounted.specs.declared.mounted.Mounted.{Mounted}
+use Rattle.jfs_shared.specs.legal.specs.served.specs.volume_calls.specs.Together.{log_parts}
 use Rattle.jfs_shared.specs.Entries.{Recorded}
 use Rattle.jfs_shared.specs.Start.{IsJustMounted, base_at}
 use Rattle.jfs_turns.specs.Lists.{Base}

@@ -11,9 +11,9 @@ use Rattle.jfs_disk.specs.declared.disk.Fault.{Fault}
 use Rattle.jfs_disk.specs.declared.disk.Part.TheVariants.{High}
 use Rattle.jfs_groups.specs.Start.{Grows}
 use Rattle.jfs_groups.specs.declared.log.SharedLog.{SharedLog}
-use Rattle.jfs_legal.specs.served.specs.crash_core.specs.Step.{halted_by}
-use Rattle.jfs_legal.specs.served.specs.halves.specs.Parts.{Parts}
-use Rattle.jfs_legal.specs.served.specs.unmount.specs.Unmount.{IsAllHome}
+use Rattle.jfs_shared.specs.legal.specs.served.specs.crash_core.specs.Step.{halted_by}
+use Rattle.jfs_shared.specs.legal.specs.served.specs.halves.specs.Parts.{Parts}
+use Rattle.jfs_shared.specs.legal.specs.served.specs.unmount.specs.Unmount.{IsAllHome}
 use Rattle.jfs_shared.specs.kept_history.specs.Unmounted.{LeavesKeepable}
 use Rattle.jfs_shared.specs.Base.{MountStart, start_of}
 use Rattle.jfs_shared.specs.Both.{Seen, AreOf}

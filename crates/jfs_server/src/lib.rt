@@ -15,7 +15,7 @@ pub use server::{MountedFrom, Server, ServerPass};
 pub use stopping::{Ending, Last, Stopped};
 
 pub mod unmount {
-    //! Passed on from `jfs_legal`.
+    //! Passed on from `jfs_shared`.
 
-    pub use jfs_legal::unmount::{MountError, Mounted, leave, mount, unmount};
+    pub use jfs_shared::unmount::{MountError, Mounted, leave, mount, unmount};
 }

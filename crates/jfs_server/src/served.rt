@@ -6,11 +6,12 @@ ghost use Rattle.jfs_server.specs.Served.{given_by};
 use jfs_bits::Moment;
 use jfs_disk::{Disk, Fault};
 use jfs_groups::{Collected, SharedLog};
-use jfs_legal::call::Outcome;
 use jfs_logpages::GroupText;
 use jfs_plain::Request;
 use jfs_serving::{Given, Serves};
-use jfs_shared::{Recorded, SharedVolume, call, commit_with, has_room_for_point, point_with};
+use jfs_shared::{
+    Outcome, Recorded, SharedVolume, call, commit_with, has_room_for_point, point_with,
+};
 use jfs_turns::Stands;
 use std::alloc::Global;
 

@@ -4,14 +4,14 @@ ghost use Rattle.std.specs.Prelude.{◌≡◌, ◌<◌, ◌≤◌, ◌^◌, [], 
 ghost use Rattle.jfs_disk.specs.Image.{Image};
 ghost use Rattle.jfs_super.specs.Super.{super_of};
 ghost use Rattle.jfs_super.specs.declared.fields.Super.{Super};
-ghost use Rattle.jfs_legal.specs.served.specs.volume_calls.specs.Together.{log_parts};
+ghost use Rattle.jfs_shared.specs.legal.specs.served.specs.volume_calls.specs.Together.{log_parts};
 ghost use Rattle.jfs_shared.specs.Start.{IsJustMounted, base_at};
 ghost use Rattle.jfs_server.specs.Start.{StartsAt, IsStarted};
 
 use crate::served::ServedVolume;
 use jfs_disk::Disk;
 use jfs_groups::SharedLog;
-use jfs_legal::unmount::Mounted;
+use jfs_shared::unmount::Mounted;
 use jfs_shared::{PointGroup, Recorded, started};
 use jfs_turns::{Based, Pass, Turns};
 use std::alloc::Global;

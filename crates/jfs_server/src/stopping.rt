@@ -1,7 +1,7 @@
 //! A server ends.
 
 ghost use Rattle.std.specs.Prelude.{◌≡◌, ◌<◌, ◌≤◌, ◌+◌, ◌*◌, ◌^◌, length, is_some, true, None};
-ghost use Rattle.jfs_legal.specs.served.specs.unmount.specs.Unmount.{IsAllHome};
+ghost use Rattle.jfs_shared.specs.legal.specs.served.specs.unmount.specs.Unmount.{IsAllHome};
 ghost use Rattle.jfs_shared.specs.Both.{AreTogether, Seen, AreOf};
 ghost use Rattle.jfs_shared.specs.Settled.{RestsBehind};
 ghost use Rattle.jfs_shared.specs.Shared.{standing as shared_standing, log_standing as shared_log_standing};
@@ -15,8 +15,8 @@ use crate::served::ServedVolume;
 use crate::server::{Server, ServerPass};
 use jfs_disk::{Disk, Fault};
 use jfs_groups::SharedLog;
-use jfs_legal::unmount::Mounted;
 use jfs_plain::Entry;
+use jfs_shared::unmount::Mounted;
 use jfs_shared::{SharedVolume, commit_with, has_room_for_point, point_with};
 use jfs_volume_calls::volume::Volume;
 

@@ -19,15 +19,15 @@ use Rattle.jfs_records.specs.Entries.{point}
 use Rattle.jfs_records.proofs.ReadBack.{length-items}
 use Rattle.jfs_groups.specs.Log.{LogData, LogStandsFor}
 use Rattle.jfs_groups.proofs.Stands.{fresh}
-use Rattle.jfs_legal.specs.served.specs.halves.specs.Half.{Halves}
-use Rattle.jfs_legal.specs.served.specs.halves.specs.Laws.{fresh_halves}
-use Rattle.jfs_legal.specs.served.specs.halves.specs.Log as halves
-use Rattle.jfs_legal.specs.served.specs.halves.specs.Log.{LogParts, HoldsItems}
-use Rattle.jfs_legal.specs.served.specs.halves.specs.Parts.{Parts, StandsFor}
-use Rattle.jfs_legal.specs.served.specs.shown.specs.meaning.specs.Image.{IsConsistentImage, volume_of}
-use Rattle.jfs_legal.specs.served.proofs.Told.{told_mount}
-use Rattle.jfs_legal.proofs.Going.{begin_law}
-use Rattle.jfs_legal.proofs.Known.{laws}
+use Rattle.jfs_kept_history.specs.legal.specs.served.specs.halves.specs.Half.{Halves}
+use Rattle.jfs_kept_history.specs.legal.specs.served.specs.halves.specs.Laws.{fresh_halves}
+use Rattle.jfs_kept_history.specs.legal.specs.served.specs.halves.specs.Log as halves
+use Rattle.jfs_kept_history.specs.legal.specs.served.specs.halves.specs.Log.{LogParts, HoldsItems}
+use Rattle.jfs_kept_history.specs.legal.specs.served.specs.halves.specs.Parts.{Parts, StandsFor}
+use Rattle.jfs_kept_history.specs.legal.specs.served.specs.shown.specs.meaning.specs.Image.{IsConsistentImage, volume_of}
+use Rattle.jfs_kept_history.specs.legal.specs.served.proofs.Told.{told_mount}
+use Rattle.jfs_kept_history.specs.legal.proofs.Going.{begin_law}
+use Rattle.jfs_kept_history.specs.legal.proofs.Known.{laws}
 use Rattle.jfs_kept_history.specs.Keepable.{IsKeepableImage}
 use Rattle.jfs_kept_history.proofs.Begun.{begin_law as kept_begins}
 use Rattle.jfs_shared.specs.Shared.{logs_of, HasText, IsShared, IsServed, IsKeptServed}

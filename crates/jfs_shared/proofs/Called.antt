@@ -6,12 +6,12 @@ use Rattle.jfs_disk.specs.declared.disk.Disk.{Ghosts}
 use Rattle.jfs_plain.specs.Limits.{FitsCall}
 use Rattle.jfs_plain.specs.declared.call.Request.{Request}
 use Rattle.jfs_groups.specs.Group.{Stays}
-use Rattle.jfs_call.specs.Answer.{IsAnswered}
-use Rattle.jfs_call.specs.Does.{Does}
-use Rattle.jfs_call.specs.Noted.{noted_by}
-use Rattle.jfs_call.specs.declared.outcome.Outcome.{Outcome}
-use Rattle.jfs_call.specs.declared.outcome.Outcome.TheVariants.{Replied, NeedsLog, NoMemory}
-use Rattle.jfs_call.specs.halves.specs.Parts.{Parts}
+use Rattle.jfs_kept_history.specs.legal.specs.served.specs.call.specs.Answer.{IsAnswered}
+use Rattle.jfs_kept_history.specs.legal.specs.served.specs.call.specs.Does.{Does}
+use Rattle.jfs_kept_history.specs.legal.specs.served.specs.call.specs.Noted.{noted_by}
+use Rattle.jfs_kept_history.specs.legal.specs.served.specs.call.specs.declared.outcome.Outcome.{Outcome}
+use Rattle.jfs_kept_history.specs.legal.specs.served.specs.call.specs.declared.outcome.Outcome.TheVariants.{Replied, NeedsLog, NoMemory}
+use Rattle.jfs_kept_history.specs.legal.specs.served.specs.call.specs.halves.specs.Parts.{Parts}
 use Rattle.jfs_shared.specs.Calls.{CallIs, BreaksOffBy}
 use Rattle.jfs_shared.specs.Shared.{standing}
 use Rattle.jfs_shared.specs.declared.shared.SharedVolume.{SharedVolume}

@@ -12,12 +12,12 @@ use Rattle.jfs_plain.specs.declared.reply.Reply.TheVariants as replies
 use Rattle.jfs_groups.specs.Points.{halt_mark, is_marked}
 use Rattle.jfs_groups.specs.Start.{Grows}
 use Rattle.jfs_groups.proofs.Counts.{grows_on, rose_on, rose_since}
-use Rattle.jfs_call.specs.Answer.{IsAnswered, IsHeld, RepliedBy, KeepsHalted, held}
-use Rattle.jfs_call.specs.declared.outcome.Outcome.TheVariants.{Replied, NeedsLog, NoMemory}
-use Rattle.jfs_call.specs.halves.specs.Parts.{Parts}
-use Rattle.jfs_call.specs.volume.specs.Join.{entry_with}
-use Rattle.jfs_legal.specs.History.{has_failed}
-use Rattle.jfs_legal.specs.served.specs.crash_core.specs.Step.{halted_by}
+use Rattle.jfs_kept_history.specs.legal.specs.served.specs.call.specs.Answer.{IsAnswered, IsHeld, RepliedBy, KeepsHalted, held}
+use Rattle.jfs_kept_history.specs.legal.specs.served.specs.call.specs.declared.outcome.Outcome.TheVariants.{Replied, NeedsLog, NoMemory}
+use Rattle.jfs_kept_history.specs.legal.specs.served.specs.call.specs.halves.specs.Parts.{Parts}
+use Rattle.jfs_kept_history.specs.legal.specs.served.specs.call.specs.volume.specs.Join.{entry_with}
+use Rattle.jfs_kept_history.specs.legal.specs.History.{has_failed}
+use Rattle.jfs_kept_history.specs.legal.specs.served.specs.crash_core.specs.Step.{halted_by}
 use Rattle.jfs_shared.specs.Base.{MountStart}
 use Rattle.jfs_shared.specs.Home.{IsSettled}
 use Rattle.jfs_shared.specs.Faults.{any_failed, HasRisen, IsOfDisk}

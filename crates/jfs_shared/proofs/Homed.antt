@@ -2,12 +2,12 @@
 use Rattle.std.specs.Prelude.{OnOk}
 use Rattle.std.proofs.Common.{◌≡◌, ℕ, List, None, Result, Ok, Err, ap, ◌∙◌}
 use Rattle.jfs_disk.specs.declared.disk.Fault.{Fault}
-use Rattle.jfs_call.specs.halves.specs.Parts.{Parts}
-use Rattle.jfs_call.specs.volume.specs.MapsHome.{KeepsMemory, with_written}
-use Rattle.jfs_call.specs.volume.specs.map_files.specs.declared.map_file.MapFiles.{MapFiles}
-use Rattle.jfs_call.specs.volume.specs.pages.specs.Dirty.{dirty_of}
-use Rattle.jfs_call.specs.volume.specs.pages.specs.declared.dirty.Dirty.{Dirty}
-use Rattle.jfs_legal.specs.served.specs.unmount.specs.Unmount.{IsAllHome}
+use Rattle.jfs_kept_history.specs.legal.specs.served.specs.call.specs.halves.specs.Parts.{Parts}
+use Rattle.jfs_kept_history.specs.legal.specs.served.specs.call.specs.volume.specs.MapsHome.{KeepsMemory, with_written}
+use Rattle.jfs_kept_history.specs.legal.specs.served.specs.call.specs.volume.specs.map_files.specs.declared.map_file.MapFiles.{MapFiles}
+use Rattle.jfs_kept_history.specs.legal.specs.served.specs.call.specs.volume.specs.pages.specs.Dirty.{dirty_of}
+use Rattle.jfs_kept_history.specs.legal.specs.served.specs.call.specs.volume.specs.pages.specs.declared.dirty.Dirty.{Dirty}
+use Rattle.jfs_kept_history.specs.legal.specs.served.specs.unmount.specs.Unmount.{IsAllHome}
 use Rattle.jfs_shared.specs.Home.{IsSettled}
 
 -- what goes home changes these

@@ -5,25 +5,25 @@ use Rattle.jfs_disk.specs.Image.{Image, page_of}
 use Rattle.jfs_disk.specs.declared.disk.Fault.{Fault}
 use Rattle.jfs_super.specs.declared.fields.Super.{Super}
 use Rattle.jfs_plain.specs.Limits.{FitsCall}
-use Rattle.jfs_call.specs.Does.{Does}
-use Rattle.jfs_call.specs.DoesLent.{Asking}
-use Rattle.jfs_call.specs.Noted.{noted_by}
-use Rattle.jfs_call.specs.declared.outcome.Outcome.TheVariants.{Replied, NeedsLog, NoMemory}
+use Rattle.jfs_kept_history.specs.legal.specs.served.specs.call.specs.Does.{Does}
+use Rattle.jfs_kept_history.specs.legal.specs.served.specs.call.specs.DoesLent.{Asking}
+use Rattle.jfs_kept_history.specs.legal.specs.served.specs.call.specs.Noted.{noted_by}
+use Rattle.jfs_kept_history.specs.legal.specs.served.specs.call.specs.declared.outcome.Outcome.TheVariants.{Replied, NeedsLog, NoMemory}
 use Rattle.jfs_groups.specs.Points.{halt_mark}
-use Rattle.jfs_legal.specs.History.{GoOn}
-use Rattle.jfs_legal.specs.served.specs.crash_core.specs.Step.{halted_by}
-use Rattle.jfs_legal.specs.served.specs.Legal.{Timed}
-use Rattle.jfs_legal.specs.served.specs.halves.specs.Change.{MayPoint, Takes, Points, Knows}
-use Rattle.jfs_legal.specs.served.specs.halves.specs.Moves.{Moves}
-use Rattle.jfs_legal.specs.served.specs.halves.specs.Parts.{Parts, OfEachHalf}
-use Rattle.jfs_legal.specs.served.specs.plain.specs.declared.reply.Reply.{Reply}
-use Rattle.jfs_legal.specs.served.specs.shown.specs.meaning.specs.Image.{volume_of}
-use Rattle.jfs_legal.specs.served.specs.volume.specs.Room.{IsWithinRoom}
-use Rattle.jfs_legal.specs.served.specs.volume.specs.Settle.{with_point}
-use Rattle.jfs_legal.specs.served.specs.volume.specs.Settles.{Settles, StaysShown}
-use Rattle.jfs_legal.specs.served.specs.volume.specs.Told.{IsTold}
-use Rattle.jfs_legal.specs.served.specs.volume_calls.specs.Halts.{GroupParts, PointParts}
-use Rattle.jfs_legal.specs.served.specs.volume_calls.specs.Written.{KeepsPages, LeavesMaps}
+use Rattle.jfs_kept_history.specs.legal.specs.History.{GoOn}
+use Rattle.jfs_kept_history.specs.legal.specs.served.specs.crash_core.specs.Step.{halted_by}
+use Rattle.jfs_kept_history.specs.legal.specs.served.specs.Legal.{Timed}
+use Rattle.jfs_kept_history.specs.legal.specs.served.specs.halves.specs.Change.{MayPoint, Takes, Points, Knows}
+use Rattle.jfs_kept_history.specs.legal.specs.served.specs.halves.specs.Moves.{Moves}
+use Rattle.jfs_kept_history.specs.legal.specs.served.specs.halves.specs.Parts.{Parts, OfEachHalf}
+use Rattle.jfs_kept_history.specs.legal.specs.served.specs.plain.specs.declared.reply.Reply.{Reply}
+use Rattle.jfs_kept_history.specs.legal.specs.served.specs.shown.specs.meaning.specs.Image.{volume_of}
+use Rattle.jfs_kept_history.specs.legal.specs.served.specs.volume.specs.Room.{IsWithinRoom}
+use Rattle.jfs_kept_history.specs.legal.specs.served.specs.volume.specs.Settle.{with_point}
+use Rattle.jfs_kept_history.specs.legal.specs.served.specs.volume.specs.Settles.{Settles, StaysShown}
+use Rattle.jfs_kept_history.specs.legal.specs.served.specs.volume.specs.Told.{IsTold}
+use Rattle.jfs_kept_history.specs.legal.specs.served.specs.volume_calls.specs.Halts.{GroupParts, PointParts}
+use Rattle.jfs_kept_history.specs.legal.specs.served.specs.volume_calls.specs.Written.{KeepsPages, LeavesMaps}
 use Rattle.jfs_kept_history.specs.Kept.{Lasting, timed_in as timed_of, IsKeptSince}
 use Rattle.jfs_kept_history.proofs.Called.{kept_call}
 use Rattle.jfs_kept_history.proofs.Quiet.{taken_law, told_law, halted_law}

@@ -20,8 +20,8 @@ use Rattle.jfs_groups.specs.Log.{IsRunning, IsLost, data_of}
 use Rattle.jfs_groups.specs.Text.{AreCounts, FrontOf, HoldsText, item_of, items_from, items_with, text_with}
 use Rattle.jfs_groups.specs.declared.log.SharedLog.{SharedLog}
 use Rattle.jfs_mount_disk.proofs.Left.{crash_low, crash_high}
-use Rattle.jfs_legal.specs.served.specs.crash_core.specs.Core.{Block}
-use Rattle.jfs_legal.specs.served.specs.shown.specs.meaning.specs.Image.{volume_of}
+use Rattle.jfs_kept_history.specs.legal.specs.served.specs.crash_core.specs.Core.{Block}
+use Rattle.jfs_kept_history.specs.legal.specs.served.specs.shown.specs.meaning.specs.Image.{volume_of}
 use Rattle.jfs_kept_history.specs.Keepable.{IsKeepableImage}
 use Rattle.jfs_kept_history.specs.Crash.{IsRedoneToHistory}
 use Rattle.jfs_kept_history.specs.Kept.{Lasting, noted_in}

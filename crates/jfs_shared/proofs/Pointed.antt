@@ -8,14 +8,14 @@ use Rattle.jfs_disk.specs.declared.disk.Disk.{Ghosts}
 use Rattle.jfs_disk.specs.declared.disk.Fault.{Fault}
 use Rattle.jfs_groups.specs.Points.{syncs}
 use Rattle.jfs_groups.specs.declared.log.SharedLog.{SharedLog}
-use Rattle.jfs_call.specs.halves.specs.Parts.{Parts}
-use Rattle.jfs_call.specs.volume.specs.Settles.{Settles, StaysShown}
-use Rattle.jfs_call.specs.volume.specs.map_files.specs.declared.map_file.MapFiles.{MapFiles}
-use Rattle.jfs_call.specs.volume.specs.pages.specs.Dirty.{dirty_of}
-use Rattle.jfs_call.specs.volume.specs.pages.specs.declared.dirty.Dirty.{Dirty}
-use Rattle.jfs_legal.specs.served.specs.unmount.specs.Unmount.{IsAllHome}
+use Rattle.jfs_kept_history.specs.legal.specs.served.specs.call.specs.halves.specs.Parts.{Parts}
+use Rattle.jfs_kept_history.specs.legal.specs.served.specs.call.specs.volume.specs.Settles.{Settles, StaysShown}
+use Rattle.jfs_kept_history.specs.legal.specs.served.specs.call.specs.volume.specs.map_files.specs.declared.map_file.MapFiles.{MapFiles}
+use Rattle.jfs_kept_history.specs.legal.specs.served.specs.call.specs.volume.specs.pages.specs.Dirty.{dirty_of}
+use Rattle.jfs_kept_history.specs.legal.specs.served.specs.call.specs.volume.specs.pages.specs.declared.dirty.Dirty.{Dirty}
+use Rattle.jfs_kept_history.specs.legal.specs.served.specs.unmount.specs.Unmount.{IsAllHome}
 use Rattle.jfs_volume_calls.specs.Written.{LeavesMaps}
-use Rattle.jfs_legal.specs.served.specs.crash_core.specs.Step.{halted_by}
+use Rattle.jfs_kept_history.specs.legal.specs.served.specs.crash_core.specs.Step.{halted_by}
 use Rattle.jfs_shared.specs.Base.{start_of}
 use Rattle.jfs_shared.specs.Both.{Seen, AreOf, Lost, Committed, Pointed, PartlyPointed, PointIs}
 use Rattle.jfs_shared.specs.Home.{IsSettled}

@@ -2,19 +2,19 @@
 use Rattle.std.proofs.Common.{◌≡◌, ℕ, List, [], ◌∷◌, ◌++◌, Bool, true, false, Option, None, refl, sym, ap, subst}
 use Rattle.jfs_super.specs.declared.fields.Super.{Super}
 use Rattle.jfs_records.specs.Records.{Noted}
-use Rattle.jfs_legal.specs.served.specs.call.specs.Does.{Does}
-use Rattle.jfs_legal.specs.served.specs.call.specs.DoesLent.{Asking}
-use Rattle.jfs_legal.specs.served.specs.call.specs.declared.outcome.Outcome.TheVariants.{Replied, NeedsLog, NoMemory}
-use Rattle.jfs_legal.specs.served.specs.halves.specs.Parts.{Parts}
-use Rattle.jfs_legal.specs.served.specs.plain.specs.declared.reply.Reply.{Reply}
-use Rattle.jfs_legal.specs.served.specs.shown.specs.meaning.specs.Image.{volume_of}
-use Rattle.jfs_legal.specs.served.specs.volume.specs.Settles.{Settles, StaysShown}
-use Rattle.jfs_legal.specs.served.specs.volume_calls.specs.Written.{KeepsPages, LeavesMaps}
-use Rattle.jfs_legal.specs.served.specs.Holds.{HoldsTree}
-use Rattle.jfs_legal.specs.served.specs.Legal.{Timed}
-use Rattle.jfs_legal.specs.History.{GoOn}
-use Rattle.jfs_legal.proofs.Going.{legal_law, call_law, settled_law, pointed_law}
-use Rattle.jfs_legal.proofs.Over.{lacked_law, over_settled_law, over_pointed_law}
+use Rattle.jfs_kept_history.specs.legal.specs.served.specs.call.specs.Does.{Does}
+use Rattle.jfs_kept_history.specs.legal.specs.served.specs.call.specs.DoesLent.{Asking}
+use Rattle.jfs_kept_history.specs.legal.specs.served.specs.call.specs.declared.outcome.Outcome.TheVariants.{Replied, NeedsLog, NoMemory}
+use Rattle.jfs_kept_history.specs.legal.specs.served.specs.halves.specs.Parts.{Parts}
+use Rattle.jfs_kept_history.specs.legal.specs.served.specs.plain.specs.declared.reply.Reply.{Reply}
+use Rattle.jfs_kept_history.specs.legal.specs.served.specs.shown.specs.meaning.specs.Image.{volume_of}
+use Rattle.jfs_kept_history.specs.legal.specs.served.specs.volume.specs.Settles.{Settles, StaysShown}
+use Rattle.jfs_kept_history.specs.legal.specs.served.specs.volume_calls.specs.Written.{KeepsPages, LeavesMaps}
+use Rattle.jfs_kept_history.specs.legal.specs.served.specs.Holds.{HoldsTree}
+use Rattle.jfs_kept_history.specs.legal.specs.served.specs.Legal.{Timed}
+use Rattle.jfs_kept_history.specs.legal.specs.History.{GoOn}
+use Rattle.jfs_kept_history.specs.legal.proofs.Going.{legal_law, call_law, settled_law, pointed_law}
+use Rattle.jfs_kept_history.specs.legal.proofs.Over.{lacked_law, over_settled_law, over_pointed_law}
 use Rattle.jfs_shared.specs.Calls.{recorded}
 use Rattle.jfs_shared.specs.Shared.{timed, timed_in, GoesOn, HistoryLaw, IsServed}
 use Rattle.jfs_shared.specs.Entries.{Recorded}

@@ -2,13 +2,13 @@
 use Rattle.std.proofs.Common.{◌≡◌, ℕ, List, None, Result, Ok, Err, sym, ap, ◌∙◌}
 use Rattle.std.specs.Prelude.{OnOk}
 use Rattle.jfs_disk.specs.declared.disk.Fault.{Fault}
-use Rattle.jfs_call.specs.halves.specs.Parts.{Parts, OfEachHalf}
-use Rattle.jfs_call.specs.volume.specs.MapsHome.{MapsHome, KeepsMemory, KeepsPlaces, with_written}
-use Rattle.jfs_call.specs.volume.specs.Settle.{AllHome, SyncIs}
-use Rattle.jfs_call.specs.volume.specs.Settles.{HomesAlone, HaltsAt}
-use Rattle.jfs_call.specs.volume.specs.map_files.specs.declared.map_file.MapFiles.{MapFiles}
-use Rattle.jfs_call.specs.volume.specs.pages.specs.Dirty.{dirty_of}
-use Rattle.jfs_call.specs.volume.specs.pages.specs.declared.dirty.Dirty.{Dirty}
+use Rattle.jfs_kept_history.specs.legal.specs.served.specs.call.specs.halves.specs.Parts.{Parts, OfEachHalf}
+use Rattle.jfs_kept_history.specs.legal.specs.served.specs.call.specs.volume.specs.MapsHome.{MapsHome, KeepsMemory, KeepsPlaces, with_written}
+use Rattle.jfs_kept_history.specs.legal.specs.served.specs.call.specs.volume.specs.Settle.{AllHome, SyncIs}
+use Rattle.jfs_kept_history.specs.legal.specs.served.specs.call.specs.volume.specs.Settles.{HomesAlone, HaltsAt}
+use Rattle.jfs_kept_history.specs.legal.specs.served.specs.call.specs.volume.specs.map_files.specs.declared.map_file.MapFiles.{MapFiles}
+use Rattle.jfs_kept_history.specs.legal.specs.served.specs.call.specs.volume.specs.pages.specs.Dirty.{dirty_of}
+use Rattle.jfs_kept_history.specs.legal.specs.served.specs.call.specs.volume.specs.pages.specs.declared.dirty.Dirty.{Dirty}
 use Rattle.jfs_kept_history.proofs.Steps as steps
 use Rattle.jfs_shared.specs.Settled.{KeepsHistory, SettlesHistory}
 

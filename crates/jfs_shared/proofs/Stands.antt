@@ -19,26 +19,26 @@ use Rattle.jfs_records.specs.Records.{Noted}
 use Rattle.jfs_turns.specs.Lists.{Base}
 use Rattle.jfs_groups.specs.Group.{IsGroupOf}
 use Rattle.jfs_groups.specs.Points.{halt_mark, syncs}
-use Rattle.jfs_call.specs.Answer.{IsAnswered, Keeps}
-use Rattle.jfs_call.specs.Does.{Does}
-use Rattle.jfs_call.specs.DoesLent.{Asking}
-use Rattle.jfs_call.specs.Noted.{noted_by}
-use Rattle.jfs_call.specs.declared.outcome.Outcome.TheVariants.{Replied, NeedsLog, NoMemory}
-use Rattle.jfs_call.specs.halves.specs.Change.{MayPoint, Takes, Points, Knows}
-use Rattle.jfs_call.specs.halves.specs.Moves.{Moves}
-use Rattle.jfs_call.specs.halves.specs.Parts.{Parts, Text, OfEachHalf}
-use Rattle.jfs_call.specs.volume.specs.bmap.specs.States.{Blocks, blocks_settled}
-use Rattle.jfs_call.specs.volume.specs.Room.{IsWithinRoom}
-use Rattle.jfs_call.specs.volume.specs.Settle.{with_point}
-use Rattle.jfs_call.specs.volume.specs.Settles.{Settles, StaysShown, is_freed}
-use Rattle.jfs_call.specs.volume.specs.Told.{IsTold, still_freed}
+use Rattle.jfs_kept_history.specs.legal.specs.served.specs.call.specs.Answer.{IsAnswered, Keeps}
+use Rattle.jfs_kept_history.specs.legal.specs.served.specs.call.specs.Does.{Does}
+use Rattle.jfs_kept_history.specs.legal.specs.served.specs.call.specs.DoesLent.{Asking}
+use Rattle.jfs_kept_history.specs.legal.specs.served.specs.call.specs.Noted.{noted_by}
+use Rattle.jfs_kept_history.specs.legal.specs.served.specs.call.specs.declared.outcome.Outcome.TheVariants.{Replied, NeedsLog, NoMemory}
+use Rattle.jfs_kept_history.specs.legal.specs.served.specs.call.specs.halves.specs.Change.{MayPoint, Takes, Points, Knows}
+use Rattle.jfs_kept_history.specs.legal.specs.served.specs.call.specs.halves.specs.Moves.{Moves}
+use Rattle.jfs_kept_history.specs.legal.specs.served.specs.call.specs.halves.specs.Parts.{Parts, Text, OfEachHalf}
+use Rattle.jfs_kept_history.specs.legal.specs.served.specs.call.specs.volume.specs.bmap.specs.States.{Blocks, blocks_settled}
+use Rattle.jfs_kept_history.specs.legal.specs.served.specs.call.specs.volume.specs.Room.{IsWithinRoom}
+use Rattle.jfs_kept_history.specs.legal.specs.served.specs.call.specs.volume.specs.Settle.{with_point}
+use Rattle.jfs_kept_history.specs.legal.specs.served.specs.call.specs.volume.specs.Settles.{Settles, StaysShown, is_freed}
+use Rattle.jfs_kept_history.specs.legal.specs.served.specs.call.specs.volume.specs.Told.{IsTold, still_freed}
 use Rattle.jfs_volume_calls.specs.Halts.{GroupParts, PointParts}
 use Rattle.jfs_volume_calls.specs.Written.{LeavesMaps}
 use Rattle.jfs_volume_calls.proofs.Kept.{group_settles, group_pages, pointed}
-use Rattle.jfs_call.specs.volume.specs.bmap.proofs.Views.{length-each_below}
+use Rattle.jfs_kept_history.specs.legal.specs.served.specs.call.specs.volume.specs.bmap.proofs.Views.{length-each_below}
 use Rattle.jfs_shared.specs.Base.{start_of, image_of}
 use Rattle.jfs_shared.specs.Calls.{recorded}
-use Rattle.jfs_legal.specs.served.specs.crash_core.specs.Step.{halted_by}
+use Rattle.jfs_kept_history.specs.legal.specs.served.specs.crash_core.specs.Step.{halted_by}
 use Rattle.jfs_shared.specs.Home.{IsSettled}
 use Rattle.jfs_shared.specs.Faults.{IsOfDisk}
 use Rattle.jfs_shared.specs.Settled.{KeepsHistory, SettlesHistory, IsSettledServed}

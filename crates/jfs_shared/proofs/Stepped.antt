@@ -9,20 +9,20 @@ use Rattle.jfs_plain.specs.declared.call.Request.{Request}
 use Rattle.jfs_plain.specs.declared.reply.Reply.{Reply}
 use Rattle.jfs_ranges.specs.declared.edit.Edit.{Edit}
 use Rattle.jfs_records.specs.Records.{Noted}
-use Rattle.jfs_call.specs.Answer.{held}
-use Rattle.jfs_call.specs.Changed.{IsChangedBy}
-use Rattle.jfs_call.specs.Does.{TellsSynced, ChangesWhere, EndsBy, DoesWhere, Does}
-use Rattle.jfs_call.specs.Noted.{noted_in, noted_where, noted_at, noted_of, noted_by}
-use Rattle.jfs_call.specs.Replied.{IsReplied, TellsSame}
-use Rattle.jfs_call.specs.declared.outcome.Outcome.{Outcome}
-use Rattle.jfs_call.specs.declared.outcome.Outcome.TheVariants.{Replied, NeedsLog, NoMemory}
-use Rattle.jfs_call.specs.declared.reply.Caller.{Caller}
-use Rattle.jfs_call.specs.files.specs.data_steps.specs.declared.pages.DataPage.{DataPage}
-use Rattle.jfs_call.specs.files.specs.declared.outcome.FileOutcome.{FileOutcome}
-use Rattle.jfs_call.specs.files.specs.declared.outcome.FileOutcome.TheVariants.{Changed, Same, NeedsLog as Awaits}
-use Rattle.jfs_call.specs.halves.specs.Parts.{Parts, Text}
-use Rattle.jfs_call.specs.volume.specs.Called.{JoinsNot}
-use Rattle.jfs_call.specs.volume.specs.Join.{with_entry}
+use Rattle.jfs_kept_history.specs.legal.specs.served.specs.call.specs.Answer.{held}
+use Rattle.jfs_kept_history.specs.legal.specs.served.specs.call.specs.Changed.{IsChangedBy}
+use Rattle.jfs_kept_history.specs.legal.specs.served.specs.call.specs.Does.{TellsSynced, ChangesWhere, EndsBy, DoesWhere, Does}
+use Rattle.jfs_kept_history.specs.legal.specs.served.specs.call.specs.Noted.{noted_in, noted_where, noted_at, noted_of, noted_by}
+use Rattle.jfs_kept_history.specs.legal.specs.served.specs.call.specs.Replied.{IsReplied, TellsSame}
+use Rattle.jfs_kept_history.specs.legal.specs.served.specs.call.specs.declared.outcome.Outcome.{Outcome}
+use Rattle.jfs_kept_history.specs.legal.specs.served.specs.call.specs.declared.outcome.Outcome.TheVariants.{Replied, NeedsLog, NoMemory}
+use Rattle.jfs_kept_history.specs.legal.specs.served.specs.call.specs.declared.reply.Caller.{Caller}
+use Rattle.jfs_kept_history.specs.legal.specs.served.specs.call.specs.files.specs.data_steps.specs.declared.pages.DataPage.{DataPage}
+use Rattle.jfs_kept_history.specs.legal.specs.served.specs.call.specs.files.specs.declared.outcome.FileOutcome.{FileOutcome}
+use Rattle.jfs_kept_history.specs.legal.specs.served.specs.call.specs.files.specs.declared.outcome.FileOutcome.TheVariants.{Changed, Same, NeedsLog as Awaits}
+use Rattle.jfs_kept_history.specs.legal.specs.served.specs.call.specs.halves.specs.Parts.{Parts, Text}
+use Rattle.jfs_kept_history.specs.legal.specs.served.specs.call.specs.volume.specs.Called.{JoinsNot}
+use Rattle.jfs_kept_history.specs.legal.specs.served.specs.call.specs.volume.specs.Join.{with_entry}
 use Rattle.jfs_shared.proofs.Text.{added, ended}
 
 -- no entry joins, and nothing waits more

@@ -13,7 +13,7 @@ use Rattle.jfs_records.specs.Entries.{Item, entry, text_size, log_records, item_
 use Rattle.jfs_records.proofs.ReadBack.{length-items, records-append}
 use Rattle.jfs_groups.specs.Text.{item_of, items_from, end_of}
 use Rattle.jfs_groups.proofs.Text.{from-append, end_grows}
-use Rattle.jfs_legal.specs.served.specs.halves.specs.Parts.{Text}
+use Rattle.jfs_kept_history.specs.legal.specs.served.specs.halves.specs.Parts.{Text}
 use Rattle.jfs_shared.specs.Shared.{logs_of, HasText}
 use Rattle.jfs_shared.specs.Entries.{Recorded}
 

@@ -6,7 +6,7 @@ use Rattle.jfs_groups.specs.Points.{syncs}
 use Rattle.jfs_groups.specs.Text.{end_of}
 use Rattle.jfs_groups.specs.Log.{IsRunning, data_of}
 use Rattle.jfs_groups.specs.declared.log.SharedLog.{SharedLog}
-use Rattle.jfs_legal.specs.served.specs.volume_calls.specs.Together as calls
+use Rattle.jfs_kept_history.specs.legal.specs.served.specs.volume_calls.specs.Together as calls
 use Rattle.jfs_shared.specs.Base.{start_of}
 use Rattle.jfs_shared.specs.Both.{Seen, AreOf}
 use Rattle.jfs_shared.specs.Shared.{logs_of, standing, log_standing}

@@ -11,10 +11,10 @@ use Rattle.jfs_logpages.specs.Fresh.{first_record}
 use Rattle.jfs_logpages.specs.Group.{Holds}
 use Rattle.jfs_logpages.specs.Ring.{fresh_ends}
 use Rattle.jfs_mount_disk.proofs.Left.{crash_low, crash_high}
-use Rattle.jfs_legal.specs.served.specs.crash_core.specs.Core.{Block, fresh_block}
-use Rattle.jfs_legal.specs.served.specs.halves.specs.Log.{LogParts}
-use Rattle.jfs_legal.specs.served.specs.halves.specs.Parts.{Parts}
-use Rattle.jfs_legal.specs.served.specs.shown.specs.meaning.specs.Image.{volume_of}
+use Rattle.jfs_kept_history.specs.legal.specs.served.specs.crash_core.specs.Core.{Block, fresh_block}
+use Rattle.jfs_kept_history.specs.legal.specs.served.specs.halves.specs.Log.{LogParts}
+use Rattle.jfs_kept_history.specs.legal.specs.served.specs.halves.specs.Parts.{Parts}
+use Rattle.jfs_kept_history.specs.legal.specs.served.specs.shown.specs.meaning.specs.Image.{volume_of}
 use Rattle.jfs_groups.specs.Text.{HoldsText}
 use Rattle.jfs_kept_history.specs.Crash.{IsRedoneToHistory}
 use Rattle.jfs_kept_history.specs.Keepable.{IsKeepableImage}

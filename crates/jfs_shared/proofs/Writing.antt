@@ -16,14 +16,14 @@ use Rattle.jfs_groups.specs.Written.{IsGroupWritten, IsGroupLost}
 use Rattle.jfs_groups.specs.declared.log.SharedLog.{SharedLog}
 use Rattle.jfs_groups.proofs.Points.{marked_all}
 use Rattle.jfs_groups.proofs.Stands.{may_write, written_stands, more_lost, group_lost, lost_stands}
-use Rattle.jfs_call.specs.halves.specs.Change.{MayPoint, Takes, Points, Knows}
-use Rattle.jfs_call.specs.halves.specs.Moves.{Moves}
-use Rattle.jfs_call.specs.halves.specs.Parts.{Parts, OfEachHalf}
-use Rattle.jfs_call.specs.volume.specs.bmap.specs.States.{blocks_settled}
-use Rattle.jfs_call.specs.volume.specs.Room.{IsWithinRoom}
-use Rattle.jfs_call.specs.volume.specs.Settle.{with_point}
-use Rattle.jfs_call.specs.volume.specs.Settles.{is_freed}
-use Rattle.jfs_call.specs.volume.specs.Told.{IsTold, still_freed}
+use Rattle.jfs_kept_history.specs.legal.specs.served.specs.call.specs.halves.specs.Change.{MayPoint, Takes, Points, Knows}
+use Rattle.jfs_kept_history.specs.legal.specs.served.specs.call.specs.halves.specs.Moves.{Moves}
+use Rattle.jfs_kept_history.specs.legal.specs.served.specs.call.specs.halves.specs.Parts.{Parts, OfEachHalf}
+use Rattle.jfs_kept_history.specs.legal.specs.served.specs.call.specs.volume.specs.bmap.specs.States.{blocks_settled}
+use Rattle.jfs_kept_history.specs.legal.specs.served.specs.call.specs.volume.specs.Room.{IsWithinRoom}
+use Rattle.jfs_kept_history.specs.legal.specs.served.specs.call.specs.volume.specs.Settle.{with_point}
+use Rattle.jfs_kept_history.specs.legal.specs.served.specs.call.specs.volume.specs.Settles.{is_freed}
+use Rattle.jfs_kept_history.specs.legal.specs.served.specs.call.specs.volume.specs.Told.{IsTold, still_freed}
 use Rattle.jfs_shared.specs.Base.{start_of, log_start_of}
 use Rattle.jfs_shared.specs.Both.{Seen, AreOf, AreTogether, Written, Lost, Committed, Pointed, PartlyPointed}
 use Rattle.jfs_shared.specs.Settled.{MaySettle}

@@ -7,7 +7,7 @@ use Rattle.jfs_turns.specs.Lists.{Base, IsPrefix}
 use Rattle.jfs_turns.specs.Standing.{Standing}
 use Rattle.jfs_groups.specs.Points.{halt_mark}
 use Rattle.jfs_groups.specs.declared.log.SharedLog.{SharedLog}
-use Rattle.jfs_legal.specs.served.specs.volume_calls.specs.Together as calls
+use Rattle.jfs_kept_history.specs.legal.specs.served.specs.volume_calls.specs.Together as calls
 use Rattle.jfs_shared.specs.Entries.{Recorded}
 use Rattle.jfs_shared.specs.declared.shared.SharedVolume.{SharedVolume}
 

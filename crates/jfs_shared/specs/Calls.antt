@@ -7,9 +7,9 @@ use Rattle.jfs_records.specs.Records.{Noted}
 use Rattle.jfs_turns.specs.Lists.{Base}
 use Rattle.jfs_turns.specs.Standing.{Standing}
 use Rattle.jfs_groups.specs.Group.{Stays}
-use Rattle.jfs_legal.specs.served.specs.call.specs.declared.outcome.Outcome.{Outcome}
-use Rattle.jfs_legal.specs.served.specs.call.specs.declared.outcome.Outcome.TheVariants.{Replied, NeedsLog, NoMemory}
-use Rattle.jfs_legal.specs.served.specs.volume.specs.Join.{entry_with}
+use Rattle.jfs_kept_history.specs.legal.specs.served.specs.call.specs.declared.outcome.Outcome.{Outcome}
+use Rattle.jfs_kept_history.specs.legal.specs.served.specs.call.specs.declared.outcome.Outcome.TheVariants.{Replied, NeedsLog, NoMemory}
+use Rattle.jfs_kept_history.specs.legal.specs.served.specs.volume.specs.Join.{entry_with}
 use Rattle.jfs_shared.specs.Entries.{Recorded}
 
 -- a client's call, by its line, with its moment and its reply; and what it has in the log

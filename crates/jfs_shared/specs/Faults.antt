@@ -4,8 +4,8 @@ use Rattle.jfs_bits.specs.Count.{Rose}
 use Rattle.jfs_plain.specs.declared.call.Entry.{Entry}
 use Rattle.jfs_groups.specs.Points.{is_marked}
 use Rattle.jfs_groups.specs.Start.{Grows}
-use Rattle.jfs_legal.specs.served.specs.halves.specs.Parts.{Parts}
-use Rattle.jfs_legal.specs.History.{has_failed}
+use Rattle.jfs_kept_history.specs.legal.specs.served.specs.halves.specs.Parts.{Parts}
+use Rattle.jfs_kept_history.specs.legal.specs.History.{has_failed}
 use Rattle.jfs_shared.specs.Base.{MountStart}
 
 -- a call was refused for a fault of the disk

@@ -1,6 +1,6 @@
 -- Pages of a volume go home.
 use Rattle.std.specs.Prelude.{◌≡◌}
-use Rattle.jfs_legal.specs.served.specs.halves.specs.Parts.{Parts}
+use Rattle.jfs_kept_history.specs.legal.specs.served.specs.halves.specs.Parts.{Parts}
 
 -- nothing joins, is taken, acknowledged or logged
 abbrev pub IsSettled : Parts → Parts → Type 0

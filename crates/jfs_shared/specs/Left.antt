@@ -6,11 +6,11 @@ use Rattle.jfs_disk.specs.Moment.{IsResting}
 use Rattle.jfs_disk.specs.declared.disk.Disk.{Ghosts}
 use Rattle.jfs_super.specs.declared.fields.Super.{Super}
 use Rattle.jfs_groups.specs.declared.log.SharedLog.{SharedLog}
-use Rattle.jfs_legal.specs.served.specs.halves.specs.Log.{LogParts}
-use Rattle.jfs_legal.specs.served.specs.halves.specs.Parts.{Parts}
-use Rattle.jfs_legal.specs.served.specs.shown.specs.meaning.specs.Image as meaning
-use Rattle.jfs_legal.specs.served.specs.Laws.{HoldsImage}
-use Rattle.jfs_legal.specs.History.{AreLegal}
+use Rattle.jfs_kept_history.specs.legal.specs.served.specs.halves.specs.Log.{LogParts}
+use Rattle.jfs_kept_history.specs.legal.specs.served.specs.halves.specs.Parts.{Parts}
+use Rattle.jfs_kept_history.specs.legal.specs.served.specs.shown.specs.meaning.specs.Image as meaning
+use Rattle.jfs_kept_history.specs.legal.specs.served.specs.Laws.{HoldsImage}
+use Rattle.jfs_kept_history.specs.legal.specs.History.{AreLegal}
 use Rattle.jfs_kept_history.specs.Crash.{IsRedoneToHistory}
 use Rattle.jfs_kept_history.specs.Keepable.{IsKeepableImage}
 use Rattle.jfs_kept_history.specs.Unmounted.{LeavesKeepable}

@@ -10,5 +10,5 @@ pub mod Settled
 pub mod Start
 pub mod Left
 -- libraries below, passed on
-pub use Rattle.jfs_legal as legal
+pub use Rattle.jfs_kept_history.specs.legal as legal
 pub use Rattle.jfs_kept_history as kept_history

@@ -7,7 +7,7 @@ use Rattle.jfs_disk.specs.declared.disk.Disk.{Ghosts}
 use Rattle.jfs_disk.specs.declared.disk.Fault.{Fault}
 use Rattle.jfs_super.specs.declared.fields.Super.{Super}
 use Rattle.jfs_groups.specs.declared.log.SharedLog.{SharedLog}
-use Rattle.jfs_legal.specs.served.specs.halves.specs.Parts.{Parts}
+use Rattle.jfs_kept_history.specs.legal.specs.served.specs.halves.specs.Parts.{Parts}
 use Rattle.jfs_kept_history.specs.Kept.{Lasting, IsKeptSince}
 use Rattle.jfs_kept_history.specs.Laws.{IsSettledSince}
 use Rattle.jfs_shared.specs.Both.{Seen, AreOf, Pointed, PartlyPointed}

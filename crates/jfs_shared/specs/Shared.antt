@@ -15,12 +15,12 @@ use Rattle.jfs_groups.specs.Points.{is_mark, syncs}
 use Rattle.jfs_groups.specs.Text.{items_from, end_of}
 use Rattle.jfs_groups.specs.Log.{standing as of_log}
 use Rattle.jfs_groups.specs.declared.log.SharedLog.{SharedLog}
-use Rattle.jfs_legal.specs.served.specs.halves.specs.Parts.{Parts, Text}
-use Rattle.jfs_legal.specs.served.specs.shown.specs.meaning.specs.Image.{IsConsistentImage}
-use Rattle.jfs_legal.specs.served.specs.shown.specs.meaning.specs.Image as meaning
-use Rattle.jfs_legal.specs.served.specs.Legal.{Timed}
-use Rattle.jfs_legal.specs.served.specs.Laws.{HoldsImage}
-use Rattle.jfs_legal.specs.History.{AreLegal, GoOn, IsOver}
+use Rattle.jfs_kept_history.specs.legal.specs.served.specs.halves.specs.Parts.{Parts, Text}
+use Rattle.jfs_kept_history.specs.legal.specs.served.specs.shown.specs.meaning.specs.Image.{IsConsistentImage}
+use Rattle.jfs_kept_history.specs.legal.specs.served.specs.shown.specs.meaning.specs.Image as meaning
+use Rattle.jfs_kept_history.specs.legal.specs.served.specs.Legal.{Timed}
+use Rattle.jfs_kept_history.specs.legal.specs.served.specs.Laws.{HoldsImage}
+use Rattle.jfs_kept_history.specs.legal.specs.History.{AreLegal, GoOn, IsOver}
 use Rattle.jfs_kept_history.specs.Keepable.{IsKeepableImage}
 use Rattle.jfs_kept_history.specs.Kept.{Lasting, IsKeptSince}
 use Rattle.jfs_shared.specs.Base.{start_of, log_start_of, image_of}

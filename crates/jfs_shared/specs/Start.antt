@@ -7,10 +7,10 @@ use Rattle.jfs_super.specs.declared.fields.Super.{Super}
 use Rattle.jfs_logpages.specs.Fresh.{IsFreshLog}
 use Rattle.jfs_turns.specs.Lists.{Base}
 use Rattle.jfs_turns.specs.Standing.{Standing}
-use Rattle.jfs_legal.specs.served.specs.halves.specs.Parts.{Parts}
-use Rattle.jfs_legal.specs.served.specs.halves.specs.Log.{LogParts}
-use Rattle.jfs_legal.specs.served.specs.volume_calls.specs.Together.{AreTogether}
-use Rattle.jfs_legal.specs.served.specs.mounted.specs.Mount.{IsMountOf}
+use Rattle.jfs_kept_history.specs.legal.specs.served.specs.halves.specs.Parts.{Parts}
+use Rattle.jfs_kept_history.specs.legal.specs.served.specs.halves.specs.Log.{LogParts}
+use Rattle.jfs_kept_history.specs.legal.specs.served.specs.volume_calls.specs.Together.{AreTogether}
+use Rattle.jfs_kept_history.specs.legal.specs.served.specs.mounted.specs.Mount.{IsMountOf}
 use Rattle.jfs_shared.specs.Base.{MountStart, base_of}
 use Rattle.jfs_shared.specs.Entries.{Recorded}
 

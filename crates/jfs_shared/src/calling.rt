@@ -2,15 +2,15 @@
 
 ghost use Rattle.std.specs.Prelude.{◌≡◌, true};
 ghost use Rattle.jfs_plain.specs.Limits.{FitsRequest};
-ghost use Rattle.jfs_call.specs.Answer.{IsAnswered};
-ghost use Rattle.jfs_call.specs.declared.outcome.Outcome.TheVariants.{NoMemory};
+ghost use Rattle.jfs_kept_history.specs.legal.specs.served.specs.call.specs.Answer.{IsAnswered};
+ghost use Rattle.jfs_kept_history.specs.legal.specs.served.specs.call.specs.declared.outcome.Outcome.TheVariants.{NoMemory};
 ghost use Rattle.jfs_shared.specs.Shared.{Stands, standing};
 ghost use Rattle.jfs_shared.specs.Calls.{CallIs, BreaksOffBy};
 
 use crate::shared::SharedVolume;
 use jfs_bits::Moment;
-use jfs_call::{Outcome, call_without_log};
 use jfs_disk::Disk;
+use jfs_kept_history::call::{Outcome, call_without_log};
 use jfs_plain::Request;
 use std::alloc::Global;
 

@@ -3,7 +3,7 @@
 ghost use Rattle.std.specs.Prelude.{◌≡◌, IfErr, OnOk, None, Some, true, false};
 ghost use Rattle.jfs_volume_calls.specs.Commit.{HasLogFault};
 ghost use Rattle.jfs_volume_calls.specs.volume.specs.Settle.{is_idle};
-ghost use Rattle.jfs_legal.specs.served.specs.crash_core.specs.Step.{halted_by};
+ghost use Rattle.jfs_kept_history.specs.legal.specs.served.specs.crash_core.specs.Step.{halted_by};
 ghost use Rattle.jfs_shared.specs.Both.{AreTogether, CommitIs, WriteIs};
 ghost use Rattle.jfs_shared.specs.Shared.{marked_by, standing, log_standing};
 

@@ -2,7 +2,7 @@
 
 ghost use Rattle.std.specs.Prelude.{◌≡◌};
 ghost use Rattle.jfs_groups.specs.Group.{Halts};
-ghost use Rattle.jfs_legal.specs.served.specs.crash_core.specs.Step.{halted_by};
+ghost use Rattle.jfs_kept_history.specs.legal.specs.served.specs.crash_core.specs.Step.{halted_by};
 ghost use Rattle.jfs_shared.specs.Shared.{Stands, marked_by, standing};
 
 use crate::shared::SharedVolume;

@@ -3,7 +3,7 @@
 ghost use Rattle.std.specs.Prelude.{◌≡◌, ◌≤◌, ◌+◌, ◌*◌, ◌^◌, [], nat_le, length, OnOk, IfErr, None, Some};
 ghost use Rattle.jfs_volume_calls.specs.Syncpoint.{HasFaultOfEither, HasPointFault};
 ghost use Rattle.jfs_shared.specs.Both.{AreTogether, PointIs};
-ghost use Rattle.jfs_legal.specs.served.specs.unmount.specs.Unmount.{IsAllHome};
+ghost use Rattle.jfs_kept_history.specs.legal.specs.served.specs.unmount.specs.Unmount.{IsAllHome};
 ghost use Rattle.jfs_shared.specs.Settled.{AreSettled, LeavesPages, PointBehind, RestsBehind};
 ghost use Rattle.jfs_shared.specs.Shared.{standing, log_standing};
 

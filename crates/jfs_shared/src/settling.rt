@@ -4,7 +4,7 @@ ghost use Rattle.std.specs.Prelude.{◌≡◌, None, OnOk};
 ghost use Rattle.jfs_volume_calls.specs.volume.specs.pages.specs.Device.{HasFault};
 ghost use Rattle.jfs_volume_calls.specs.volume.specs.Settles.{Settles, StaysShown, HaltsAt};
 ghost use Rattle.jfs_volume_calls.specs.Written.{LeavesMaps};
-ghost use Rattle.jfs_legal.specs.served.specs.unmount.specs.Unmount.{IsAllHome};
+ghost use Rattle.jfs_kept_history.specs.legal.specs.served.specs.unmount.specs.Unmount.{IsAllHome};
 ghost use Rattle.jfs_shared.specs.Home.{IsSettled};
 ghost use Rattle.jfs_shared.specs.Settled.{KeepsHistory, SettlesHistory};
 

@@ -3,7 +3,7 @@
 ghost use Rattle.std.specs.Prelude.{◌≡◌, ◌<◌, ◌^◌, false};
 ghost use Rattle.jfs_disk.specs.Image.{Image};
 ghost use Rattle.jfs_super.specs.declared.fields.Super.{Super};
-ghost use Rattle.jfs_legal.specs.served.specs.volume_calls.specs.Together.{log_parts};
+ghost use Rattle.jfs_kept_history.specs.legal.specs.served.specs.volume_calls.specs.Together.{log_parts};
 ghost use Rattle.jfs_shared.specs.Shared.{standing, log_standing};
 ghost use Rattle.jfs_shared.specs.Start.{IsJustMounted, StandsFresh, base_at};
 
@@ -11,7 +11,7 @@ use crate::point_group::PointGroup;
 use crate::shared::SharedVolume;
 use jfs_disk::Disk;
 use jfs_groups::SharedLog;
-use jfs_legal::unmount::Mounted;
+use jfs_kept_history::unmount::Mounted;
 
 /// A volume that was just mounted, and its log, as the values that two turns guard. Nothing has happened yet.
 pub fn started<D: Disk>(m: Mounted<D>, point: PointGroup) -> (SharedVolume<D>, SharedLog<D>)

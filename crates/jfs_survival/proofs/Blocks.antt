@@ -2,12 +2,12 @@
 use Rattle.std.proofs.Common.{◌≡◌, ◌<◌, ◌≤◌, ◌⊎◌, ◌+◌, ◌-◌, ◌&&◌, nat_le, not, ℕ, zero, suc, Bool, true, false, if◌then◌else◌, List, length, Option, Some, None, IsSome, refl, sym, ap, ap₂, ◌∙◌, subst, inl, inr, arith}
 use Rattle.std.proofs.lemmas.Bool.{cases_lt}
 use Rattle.jfs_disk.specs.Crash.{PageHistory, page_written, page_failed, resting}
-use Rattle.jfs_recovery.specs.crash_core.specs.declared.block.Span.{Span}
-use Rattle.jfs_recovery.specs.crash_core.specs.Core.{Block}
-use Rattle.jfs_recovery.specs.crash_core.specs.Step.{spanned, dirtied, joined, sent_home, failed_home, synced}
-use Rattle.jfs_recovery.specs.crash_core.specs.Sound.{LiesIn, SpansWithin}
-use Rattle.jfs_recovery.specs.Core.{Slot, dropped, data_slot, data_failed_slot, home_slot, home_failed_slot}
-use Rattle.jfs_recovery.specs.Sound.{SlotOk}
+use Rattle.jfs_face.specs.recovery.specs.crash_core.specs.declared.block.Span.{Span}
+use Rattle.jfs_face.specs.recovery.specs.crash_core.specs.Core.{Block}
+use Rattle.jfs_face.specs.recovery.specs.crash_core.specs.Step.{spanned, dirtied, joined, sent_home, failed_home, synced}
+use Rattle.jfs_face.specs.recovery.specs.crash_core.specs.Sound.{LiesIn, SpansWithin}
+use Rattle.jfs_face.specs.recovery.specs.Core.{Slot, dropped, data_slot, data_failed_slot, home_slot, home_failed_slot}
+use Rattle.jfs_face.specs.recovery.specs.Sound.{SlotOk}
 use Rattle.jfs_survival.specs.Stands.{IsBlockOf}
 
 pub never : {A : Type 0} (b : Bool) → b ≡ true → b ≡ false → A

@@ -2,18 +2,18 @@
 use Rattle.std.proofs.Common.{◌≡◌, ◌≢◌, ◌<◌, ◌≤◌, ◌⊎◌, ℕ, suc, Bool, true, false, List, length, slice_index_or, Option, None, IsSome, refl, sym, ap, ◌∙◌, subst, inl, inr, arith}
 use Rattle.std.proofs.lemmas.Bool.{cases_Bool, cases_lt, lt-leb}
 use Rattle.std.proofs.lemmas.List.{get_or_past, length_push}
-use Rattle.jfs_halves.specs.Entry.{Happened, edits}
-use Rattle.jfs_halves.specs.Half.{VolumeHalf, Halves}
-use Rattle.jfs_halves.specs.Marks.{takes, frees, entered_state}
-use Rattle.jfs_halves.specs.Change.{Enters, Takes, Tells, HandsOut, GoesHome, Tears, Drops, Writes, WriteTears, Stops, LogStops, Syncs, Points, Knows}
-use Rattle.jfs_halves.specs.Both.{BothChange, Changes, GroupIsWritten, GroupFails, Fits, changed}
+use Rattle.jfs_logged.specs.halves.specs.Entry.{Happened, edits}
+use Rattle.jfs_logged.specs.halves.specs.Half.{VolumeHalf, Halves}
+use Rattle.jfs_logged.specs.halves.specs.Marks.{takes, frees, entered_state}
+use Rattle.jfs_logged.specs.halves.specs.Change.{Enters, Takes, Tells, HandsOut, GoesHome, Tears, Drops, Writes, WriteTears, Stops, LogStops, Syncs, Points, Knows}
+use Rattle.jfs_logged.specs.halves.specs.Both.{BothChange, Changes, GroupIsWritten, GroupFails, Fits, changed}
 use Rattle.jfs_map_files.specs.bmap.specs.States.{Blocks, BlockState, Free, Owned, Busy, state_of, is_busy_state, settled_state, blocks_settled}
 use Rattle.jfs_map_files.specs.bmap.proofs.States.{changed-at, changed-length}
-use Rattle.jfs_recovery.specs.kinds.specs.Owner.{Owner}
-use Rattle.jfs_recovery.specs.Face.{Face, Pages}
-use Rattle.jfs_recovery.specs.Core.{Core, Step, count, owner_at, IsBusy, does, after_steps, appended}
-use Rattle.jfs_recovery.specs.Core.Step.{Take, Told}
-use Rattle.jfs_recovery.proofs.Kept.{longer_image, last_image}
+use Rattle.jfs_face.specs.recovery.specs.kinds.specs.Owner.{Owner}
+use Rattle.jfs_face.specs.recovery.specs.Face.{Face, Pages}
+use Rattle.jfs_face.specs.recovery.specs.Core.{Core, Step, count, owner_at, IsBusy, does, after_steps, appended}
+use Rattle.jfs_face.specs.recovery.specs.Core.Step.{Take, Told}
+use Rattle.jfs_face.specs.recovery.proofs.Kept.{longer_image, last_image}
 use Rattle.jfs_face.specs.Volume.{face_of}
 use Rattle.jfs_survival.specs.Stands.{IsCoreOf}
 use Rattle.jfs_survival.specs.Played.{step_if, IsPlayed}

@@ -9,24 +9,24 @@ use Rattle.jfs_disk.specs.declared.disk.Fault.{Fault}
 use Rattle.jfs_disk.proofs.Tearing.{length-torn}
 use Rattle.jfs_ranges.specs.declared.edit.Edit.{Edit}
 use Rattle.jfs_ranges.specs.Apply.{apply_tx, touches_tx}
-use Rattle.jfs_recovery.specs.crash_core.specs.declared.block.Span.{Span}
-use Rattle.jfs_recovery.specs.crash_core.specs.Core.{Block, no_block}
-use Rattle.jfs_recovery.specs.crash_core.specs.Step.{EndsBy, BeginsPast, IsSynced, dirtied, marked, sent_home, failed_home, synced, halted_by}
-use Rattle.jfs_recovery.specs.crash_core.specs.Sound.{LiesIn}
-use Rattle.jfs_recovery.specs.crash_core.proofs.Bytes.{length-apply_tx, length-pages_after, page_of-pages_after}
-use Rattle.jfs_recovery.specs.crash_core.proofs.Bounds.{length-marked}
-use Rattle.jfs_halves.specs.Entry.{Happened, edits}
-use Rattle.jfs_halves.specs.Marks.{frees_page}
-use Rattle.jfs_halves.specs.Half.{Waiting, VolumeHalf, Halves, block_in, page_in, is_open}
-use Rattle.jfs_halves.specs.Change.{Enters, Takes, Tells, HandsOut, GoesHome, Tears, Drops, Writes, WriteTears, Stops, LogStops, Syncs, Points, Knows}
-use Rattle.jfs_halves.specs.Both.{BothChange, Changes, GroupIsWritten, GroupFails, changed, Fits}
-use Rattle.jfs_recovery.specs.kinds.specs.Owner.{is_logged}
-use Rattle.jfs_recovery.specs.Face.{Face, IsFace, Pages, matters}
-use Rattle.jfs_recovery.specs.Core.{Core, Slot, Done, Step, nothing, entry, count, image, newest, matters_at, owner_at, told_page, dropped, put, data_slot, data_failed_slot, home_slot, home_failed_slot, MayWrite, IsAllowed, does, AreAllowed, after_steps, appended}
-use Rattle.jfs_recovery.specs.Core.Step.{Write, WriteFails, Append, Take, GroupWrite, Told, Home, HomeFails, LowSync, SyncPoint}
-use Rattle.jfs_recovery.specs.Sound.{IsSound, Cares}
-use Rattle.jfs_recovery.proofs.Images.{size_image}
-use Rattle.jfs_recovery.proofs.Kept.{kept_step, longer_image, last_image}
+use Rattle.jfs_face.specs.recovery.specs.crash_core.specs.declared.block.Span.{Span}
+use Rattle.jfs_face.specs.recovery.specs.crash_core.specs.Core.{Block, no_block}
+use Rattle.jfs_face.specs.recovery.specs.crash_core.specs.Step.{EndsBy, BeginsPast, IsSynced, dirtied, marked, sent_home, failed_home, synced, halted_by}
+use Rattle.jfs_face.specs.recovery.specs.crash_core.specs.Sound.{LiesIn}
+use Rattle.jfs_face.specs.recovery.specs.crash_core.proofs.Bytes.{length-apply_tx, length-pages_after, page_of-pages_after}
+use Rattle.jfs_face.specs.recovery.specs.crash_core.proofs.Bounds.{length-marked}
+use Rattle.jfs_logged.specs.halves.specs.Entry.{Happened, edits}
+use Rattle.jfs_logged.specs.halves.specs.Marks.{frees_page}
+use Rattle.jfs_logged.specs.halves.specs.Half.{Waiting, VolumeHalf, Halves, block_in, page_in, is_open}
+use Rattle.jfs_logged.specs.halves.specs.Change.{Enters, Takes, Tells, HandsOut, GoesHome, Tears, Drops, Writes, WriteTears, Stops, LogStops, Syncs, Points, Knows}
+use Rattle.jfs_logged.specs.halves.specs.Both.{BothChange, Changes, GroupIsWritten, GroupFails, changed, Fits}
+use Rattle.jfs_face.specs.recovery.specs.kinds.specs.Owner.{is_logged}
+use Rattle.jfs_face.specs.recovery.specs.Face.{Face, IsFace, Pages, matters}
+use Rattle.jfs_face.specs.recovery.specs.Core.{Core, Slot, Done, Step, nothing, entry, count, image, newest, matters_at, owner_at, told_page, dropped, put, data_slot, data_failed_slot, home_slot, home_failed_slot, MayWrite, IsAllowed, does, AreAllowed, after_steps, appended}
+use Rattle.jfs_face.specs.recovery.specs.Core.Step.{Write, WriteFails, Append, Take, GroupWrite, Told, Home, HomeFails, LowSync, SyncPoint}
+use Rattle.jfs_face.specs.recovery.specs.Sound.{IsSound, Cares}
+use Rattle.jfs_face.specs.recovery.proofs.Images.{size_image}
+use Rattle.jfs_face.specs.recovery.proofs.Kept.{kept_step, longer_image, last_image}
 use Rattle.jfs_survival.specs.Stands.{IsBlockOf, lines_at, IsUntouched, IsCoreOf}
 use Rattle.jfs_survival.specs.Played.{Joins, Matters, IsFree, IsData, IsMapHome, MapsAreSynced, step_if, IsPlayed}
 use Rattle.jfs_survival.proofs.Blocks.{moved, no_some, none_is, steady, last_within, last_now, entered, acknowledged, gone_home, torn_home, map_home, map_torn, forgotten, data_put, data_torn, free_home, free_torn, settled}

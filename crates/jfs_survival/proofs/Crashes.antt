@@ -4,11 +4,11 @@ use Rattle.std.proofs.lemmas.Bool.{cases_Bool, ltb-true, cond-true, cond-false}
 use Rattle.std.proofs.lemmas.List.{length-map, get_or-map, take-append-drop}
 use Rattle.jfs_disk.specs.Image.{Image, page_of}
 use Rattle.jfs_disk.specs.Crash.{PageHistory, IsCrashPage, IsCrashImage, content_of, no_page, torn}
-use Rattle.jfs_recovery.specs.crash_core.specs.Core.{Block, no_block}
-use Rattle.jfs_halves.specs.Half.{Halves, low_in}
-use Rattle.jfs_recovery.specs.Face.{Face}
-use Rattle.jfs_recovery.specs.Core.{Core, after_steps}
-use Rattle.jfs_recovery.specs.Sound.{IsLeft}
+use Rattle.jfs_face.specs.recovery.specs.crash_core.specs.Core.{Block, no_block}
+use Rattle.jfs_logged.specs.halves.specs.Half.{Halves, low_in}
+use Rattle.jfs_face.specs.recovery.specs.Face.{Face}
+use Rattle.jfs_face.specs.recovery.specs.Core.{Core, after_steps}
+use Rattle.jfs_face.specs.recovery.specs.Sound.{IsLeft}
 use Rattle.jfs_face.specs.Volume.{face_of}
 use Rattle.jfs_face.proofs.Recovered.{recovered}
 use Rattle.jfs_survival.specs.Stands.{IsCoreOf}

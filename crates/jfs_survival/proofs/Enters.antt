@@ -1,9 +1,9 @@
 -- An entry that logs what matters is an append.
 use Rattle.std.proofs.Common.{◌≡◌, ◌||◌, ◌&&◌, Bool, true, false, refl}
 use Rattle.jfs_ranges.specs.Apply.{touches_tx}
-use Rattle.jfs_halves.specs.Entry.{edits}
-use Rattle.jfs_recovery.specs.records.specs.Redo.{closes_in}
-use Rattle.jfs_recovery.specs.Core.{count, image}
+use Rattle.jfs_logged.specs.halves.specs.Entry.{edits}
+use Rattle.jfs_face.specs.recovery.specs.records.specs.Redo.{closes_in}
+use Rattle.jfs_face.specs.recovery.specs.Core.{count, image}
 use Rattle.jfs_face.specs.Places.{is_map_page}
 use Rattle.jfs_survival.specs.MapMarks.{map_marks}
 use Rattle.jfs_survival.specs.Enters.{EntersLaw}

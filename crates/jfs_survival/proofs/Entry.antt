@@ -3,19 +3,19 @@ use Rattle.std.proofs.Common.{◌≡◌, ◌⊎◌, ◌||◌, ◌&&◌, ℕ, Boo
 use Rattle.std.proofs.lemmas.Bool.{cases_Bool}
 use Rattle.jfs_ranges.specs.declared.edit.Edit.{Edit}
 use Rattle.jfs_ranges.specs.Apply.{apply_tx, touches_tx}
-use Rattle.jfs_recovery.specs.crash_core.proofs.Bytes.{apply_tx-untouched}
-use Rattle.jfs_recovery.specs.records.specs.Redo.{closes_in}
-use Rattle.jfs_recovery.specs.objects.specs.Readers.{Readers}
-use Rattle.jfs_recovery.specs.objects.specs.Volume.{Volume}
-use Rattle.jfs_recovery.specs.kinds.specs.Owner.{Owner, is_logged}
-use Rattle.jfs_recovery.specs.kinds.specs.Owner.Owner.{Data}
-use Rattle.jfs_recovery.specs.kinds.proofs.Stay.{is_free}
-use Rattle.jfs_recovery.specs.kinds.proofs.Single.{has_owners}
-use Rattle.jfs_recovery.specs.Face.{Face, IsFace, Pages, byte, matters}
-use Rattle.jfs_recovery.specs.Core.{Core, count, image, owner_at, IsBusy, MayOwn, IsLogged, IsMarked, MayAppend}
-use Rattle.jfs_recovery.specs.Sound.{IsSound}
-use Rattle.jfs_recovery.specs.Lines.{rest_of}
-use Rattle.jfs_recovery.proofs.Images.{size_image}
+use Rattle.jfs_face.specs.recovery.specs.crash_core.proofs.Bytes.{apply_tx-untouched}
+use Rattle.jfs_face.specs.recovery.specs.records.specs.Redo.{closes_in}
+use Rattle.jfs_face.specs.recovery.specs.objects.specs.Readers.{Readers}
+use Rattle.jfs_face.specs.recovery.specs.objects.specs.Volume.{Volume}
+use Rattle.jfs_face.specs.recovery.specs.kinds.specs.Owner.{Owner, is_logged}
+use Rattle.jfs_face.specs.recovery.specs.kinds.specs.Owner.Owner.{Data}
+use Rattle.jfs_face.specs.recovery.specs.kinds.proofs.Stay.{is_free}
+use Rattle.jfs_face.specs.recovery.specs.kinds.proofs.Single.{has_owners}
+use Rattle.jfs_face.specs.recovery.specs.Face.{Face, IsFace, Pages, byte, matters}
+use Rattle.jfs_face.specs.recovery.specs.Core.{Core, count, image, owner_at, IsBusy, MayOwn, IsLogged, IsMarked, MayAppend}
+use Rattle.jfs_face.specs.recovery.specs.Sound.{IsSound}
+use Rattle.jfs_face.specs.recovery.specs.Lines.{rest_of}
+use Rattle.jfs_face.specs.recovery.proofs.Images.{size_image}
 use Rattle.jfs_face.specs.Places.{Places, AreInAreas, is_map_page}
 use Rattle.jfs_face.specs.Volume.{face_of}
 use Rattle.jfs_face.proofs.Whole.{is_face}

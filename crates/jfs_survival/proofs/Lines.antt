@@ -4,13 +4,13 @@ use Rattle.std.proofs.lemmas.Bool.{cases_Bool}
 use Rattle.std.proofs.lemmas.List.{ext_get_or, get_or-replicate, length-replicate}
 use Rattle.jfs_ranges.specs.declared.edit.Edit.{Edit}
 use Rattle.jfs_ranges.specs.Apply.{apply_tx, touches_tx}
-use Rattle.jfs_recovery.specs.crash_core.proofs.Bytes.{apply_tx-untouched}
-use Rattle.jfs_recovery.specs.records.specs.Redo.{closes_in}
-use Rattle.jfs_recovery.specs.Lines.{rest_of}
-use Rattle.jfs_halves.specs.Marks.{frees_page}
-use Rattle.jfs_recovery.specs.Face.{Face, IsFace, Pages, Gives, Passes, byte, matters}
-use Rattle.jfs_recovery.specs.Core.{IsLogged}
-use Rattle.jfs_recovery.specs.objects.specs.Readers.{Readers}
+use Rattle.jfs_face.specs.recovery.specs.crash_core.proofs.Bytes.{apply_tx-untouched}
+use Rattle.jfs_face.specs.recovery.specs.records.specs.Redo.{closes_in}
+use Rattle.jfs_face.specs.recovery.specs.Lines.{rest_of}
+use Rattle.jfs_logged.specs.halves.specs.Marks.{frees_page}
+use Rattle.jfs_face.specs.recovery.specs.Face.{Face, IsFace, Pages, Gives, Passes, byte, matters}
+use Rattle.jfs_face.specs.recovery.specs.Core.{IsLogged}
+use Rattle.jfs_face.specs.recovery.specs.objects.specs.Readers.{Readers}
 use Rattle.jfs_face.specs.Places.{Places, is_map_page}
 use Rattle.jfs_face.specs.Volume.{face_of}
 use Rattle.jfs_logged.proofs.Joined.{rest_untouched, freed_rest}

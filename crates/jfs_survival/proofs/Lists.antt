@@ -1,14 +1,14 @@
 -- Lists of changes that are steps of the core.
 use Rattle.std.proofs.Common.{◌≡◌, ◌≢◌, ◌⊎◌, ◌==◌, ℕ, true, false, List, [], ◌∷◌, ◌++◌, Option, None, IsSome, refl, sym, ap, ◌∙◌, subst, append_assoc, inl, inr}
 use Rattle.std.proofs.lemmas.Bool.{cases_eq, eq-eqb, ne_eqb, or_parts}
-use Rattle.jfs_recovery.specs.crash_core.specs.declared.block.Span.{Span}
-use Rattle.jfs_recovery.specs.crash_core.specs.Step.{EndsBy, BeginsPast}
-use Rattle.jfs_halves.specs.Half.{Halves, is_open}
-use Rattle.jfs_halves.specs.Change.{Enters, Takes, Tells, HandsOut, GoesHome, Tears, Drops, Writes, WriteTears, Stops, LogStops, Syncs, Points, Knows}
-use Rattle.jfs_halves.specs.Both.{BothChange, Changes, GroupIsWritten, GroupFails, changed, after}
-use Rattle.jfs_recovery.specs.Face.{Face}
-use Rattle.jfs_recovery.specs.Core.{Core, Slot, Step, count, told_page, home_slot, does, after_steps}
-use Rattle.jfs_recovery.specs.Core.Step.{Take, GroupWrite, Told, Home, LowSync}
+use Rattle.jfs_face.specs.recovery.specs.crash_core.specs.declared.block.Span.{Span}
+use Rattle.jfs_face.specs.recovery.specs.crash_core.specs.Step.{EndsBy, BeginsPast}
+use Rattle.jfs_logged.specs.halves.specs.Half.{Halves, is_open}
+use Rattle.jfs_logged.specs.halves.specs.Change.{Enters, Takes, Tells, HandsOut, GoesHome, Tears, Drops, Writes, WriteTears, Stops, LogStops, Syncs, Points, Knows}
+use Rattle.jfs_logged.specs.halves.specs.Both.{BothChange, Changes, GroupIsWritten, GroupFails, changed, after}
+use Rattle.jfs_face.specs.recovery.specs.Face.{Face}
+use Rattle.jfs_face.specs.recovery.specs.Core.{Core, Slot, Step, count, told_page, home_slot, does, after_steps}
+use Rattle.jfs_face.specs.recovery.specs.Core.Step.{Take, GroupWrite, Told, Home, LowSync}
 use Rattle.jfs_face.specs.Volume.{face_of}
 use Rattle.jfs_survival.specs.Played.{IsMapHome, MapsAreSynced, step_if, IsPlayed, ArePlayed}
 use Rattle.jfs_survival.specs.Lists.{IsPlain, ArePlain, PlainLaw, is_among, AreMapsHome, AllMapsHome, MapsSettle, MapsLaw, TogetherLaw}

@@ -9,12 +9,12 @@ use Rattle.jfs_bits.proofs.Buds.{any_below-from, any_below-at}
 use Rattle.jfs_ranges.specs.declared.edit.Edit.{Edit}
 use Rattle.jfs_ranges.specs.declared.edit.Edit.TheVariants.{Lines, NoRedo, Alloc, Free}
 use Rattle.jfs_map_files.specs.bmap.specs.MapFile.{pages_of, is_in_use, tells_of}
-use Rattle.jfs_recovery.specs.records.specs.Marks.{is_new_extent}
-use Rattle.jfs_recovery.specs.objects.specs.Volume.{slot_of}
-use Rattle.jfs_recovery.specs.objects.specs.Objects.{is_live}
-use Rattle.jfs_recovery.specs.Face.{Face, IsFace, Pages, Item, Value}
-use Rattle.jfs_recovery.specs.Core.{count, image}
-use Rattle.jfs_recovery.proofs.Images.{canonical_image}
+use Rattle.jfs_face.specs.recovery.specs.records.specs.Marks.{is_new_extent}
+use Rattle.jfs_face.specs.recovery.specs.objects.specs.Volume.{slot_of}
+use Rattle.jfs_face.specs.recovery.specs.objects.specs.Objects.{is_live}
+use Rattle.jfs_face.specs.recovery.specs.Face.{Face, IsFace, Pages, Item, Value}
+use Rattle.jfs_face.specs.recovery.specs.Core.{count, image}
+use Rattle.jfs_face.specs.recovery.proofs.Images.{canonical_image}
 use Rattle.jfs_face.specs.Places.{Places, is_block_page, is_inode_page, is_map_page}
 use Rattle.jfs_face.specs.MapPages.{home_by, is_used_on, IsInodeMapPage, IsCanonicalPage}
 use Rattle.jfs_face.specs.Items.{extent_by}

@@ -1,9 +1,9 @@
 -- Changes, one after another, are a run of the core.
 use Rattle.std.proofs.Common.{◌≡◌, List, [], ◌∷◌, ◌++◌, refl, sym, subst}
-use Rattle.jfs_halves.specs.Half.{Halves}
-use Rattle.jfs_halves.specs.Both.{BothChange, changed, FitAll, after}
-use Rattle.jfs_recovery.specs.Face.{Face, IsFace}
-use Rattle.jfs_recovery.specs.Core.{Core, Step, does, AreAllowed, after_steps}
+use Rattle.jfs_logged.specs.halves.specs.Half.{Halves}
+use Rattle.jfs_logged.specs.halves.specs.Both.{BothChange, changed, FitAll, after}
+use Rattle.jfs_face.specs.recovery.specs.Face.{Face, IsFace}
+use Rattle.jfs_face.specs.recovery.specs.Core.{Core, Step, does, AreAllowed, after_steps}
 use Rattle.jfs_face.proofs.Whole.{is_face}
 use Rattle.jfs_survival.specs.Stands.{IsCoreOf}
 use Rattle.jfs_survival.specs.Played.{ArePlayed}

@@ -1,17 +1,17 @@
 -- An image that has what the log keeps safe of a volume has its owners, whatever stands in the fixed areas.
 use Rattle.std.proofs.Common.{◌≡◌, ◌≢◌, ◌⊎◌, ◌<◌, ◌==◌, ◌&&◌, ℕ, zero, suc, Bool, true, false, refl, sym, ap, ◌∙◌, inl, inr, Option, Some, is_some, arith}
 use Rattle.std.proofs.lemmas.Bool.{cases_eq, cases_Bool, eq-eqb, ne_eqb}
-use Rattle.jfs_recovery.specs.objects.specs.Readers.{Readers}
-use Rattle.jfs_recovery.specs.objects.specs.Volume.{Volume, room}
-use Rattle.jfs_recovery.specs.objects.specs.Objects.{Object, objects}
-use Rattle.jfs_recovery.specs.objects.specs.Owners.{owners, holds, extents_have, sum_below, bit, IsSound}
-use Rattle.jfs_recovery.specs.objects.proofs.Sums.{sum_same}
-use Rattle.jfs_recovery.specs.kinds.specs.Owner.{Owner, owner_of, owner_below, owner_in, or_else, is_logged}
-use Rattle.jfs_recovery.specs.kinds.specs.Owner.Owner.{Area, Inodes}
-use Rattle.jfs_recovery.specs.kinds.proofs.Parts.{it, passed}
-use Rattle.jfs_recovery.specs.kinds.proofs.Stay.{is_free}
-use Rattle.jfs_recovery.specs.kinds.proofs.Logged.{logged_law}
-use Rattle.jfs_recovery.specs.Face.{Pages}
+use Rattle.jfs_face.specs.recovery.specs.objects.specs.Readers.{Readers}
+use Rattle.jfs_face.specs.recovery.specs.objects.specs.Volume.{Volume, room}
+use Rattle.jfs_face.specs.recovery.specs.objects.specs.Objects.{Object, objects}
+use Rattle.jfs_face.specs.recovery.specs.objects.specs.Owners.{owners, holds, extents_have, sum_below, bit, IsSound}
+use Rattle.jfs_face.specs.recovery.specs.objects.proofs.Sums.{sum_same}
+use Rattle.jfs_face.specs.recovery.specs.kinds.specs.Owner.{Owner, owner_of, owner_below, owner_in, or_else, is_logged}
+use Rattle.jfs_face.specs.recovery.specs.kinds.specs.Owner.Owner.{Area, Inodes}
+use Rattle.jfs_face.specs.recovery.specs.kinds.proofs.Parts.{it, passed}
+use Rattle.jfs_face.specs.recovery.specs.kinds.proofs.Stay.{is_free}
+use Rattle.jfs_face.specs.recovery.specs.kinds.proofs.Logged.{logged_law}
+use Rattle.jfs_face.specs.recovery.specs.Face.{Pages}
 use Rattle.jfs_face.specs.Places.{Places}
 use Rattle.jfs_face.specs.Volume.{volume_with}
 use Rattle.jfs_survival.specs.Entry.{ShowsLogged, SeenLaw}

@@ -3,13 +3,13 @@ use Rattle.std.proofs.Common.{◌≡◌, ◌<◌, ℕ, true, List, [], length, m
 use Rattle.std.proofs.lemmas.List.{length-map, get_or-map}
 use Rattle.jfs_disk.specs.Image.{page_of}
 use Rattle.jfs_disk.specs.Crash.{resting}
-use Rattle.jfs_recovery.specs.crash_core.specs.Core.{fresh_block, no_block}
-use Rattle.jfs_halves.specs.Entry.{Shown}
-use Rattle.jfs_halves.specs.Laws.{fresh_halves}
-use Rattle.jfs_recovery.specs.Face.{Face, IsFace, Pages, item}
-use Rattle.jfs_recovery.specs.Core.{matters_at}
-use Rattle.jfs_recovery.specs.Mount.{fresh, IsMounted}
-use Rattle.jfs_recovery.proofs.Mount.{fresh_kept}
+use Rattle.jfs_face.specs.recovery.specs.crash_core.specs.Core.{fresh_block, no_block}
+use Rattle.jfs_logged.specs.halves.specs.Entry.{Shown}
+use Rattle.jfs_logged.specs.halves.specs.Laws.{fresh_halves}
+use Rattle.jfs_face.specs.recovery.specs.Face.{Face, IsFace, Pages, item}
+use Rattle.jfs_face.specs.recovery.specs.Core.{matters_at}
+use Rattle.jfs_face.specs.recovery.specs.Mount.{fresh, IsMounted}
+use Rattle.jfs_face.specs.recovery.proofs.Mount.{fresh_kept}
 use Rattle.jfs_face.proofs.Whole.{is_face}
 use Rattle.jfs_survival.specs.Stands.{IsBlockOf, lines_at, IsCoreOf}
 use Rattle.jfs_survival.specs.Laws.{StartLaw}

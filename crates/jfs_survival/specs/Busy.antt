@@ -1,17 +1,17 @@
 -- Blocks that entries freed which aren't acknowledged: busy in the core, and in the half's map.
 use Rattle.std.specs.Prelude.{◌≡◌, ◌≢◌, ◌<◌, ℕ, Bool, true, List, [], ◌∷◌, length, Option, None, IsSome}
 use Rattle.jfs_ranges.specs.declared.edit.Edit.{Edit}
-use Rattle.jfs_halves.specs.Entry.{Happened, edits}
-use Rattle.jfs_halves.specs.Half.{VolumeHalf, Halves}
-use Rattle.jfs_halves.specs.Marks.{takes, frees}
-use Rattle.jfs_halves.specs.Change.{MayWrite, Enters}
-use Rattle.jfs_halves.specs.Both.{BothChange, Changes, Fits, changed}
+use Rattle.jfs_logged.specs.halves.specs.Entry.{Happened, edits}
+use Rattle.jfs_logged.specs.halves.specs.Half.{VolumeHalf, Halves}
+use Rattle.jfs_logged.specs.halves.specs.Marks.{takes, frees}
+use Rattle.jfs_logged.specs.halves.specs.Change.{MayWrite, Enters}
+use Rattle.jfs_logged.specs.halves.specs.Both.{BothChange, Changes, Fits, changed}
 use Rattle.jfs_map_files.specs.bmap.specs.States.{Owned, Busy, state_of}
-use Rattle.jfs_recovery.specs.kinds.specs.Owner.{Owner}
-use Rattle.jfs_recovery.specs.objects.specs.Readers.{Readers}
-use Rattle.jfs_recovery.specs.Face.{Face, Pages}
-use Rattle.jfs_recovery.specs.Core.{Core, Step, count, owner_at, IsBusy, after_steps}
-use Rattle.jfs_recovery.specs.Core.Step.{Append}
+use Rattle.jfs_face.specs.recovery.specs.kinds.specs.Owner.{Owner}
+use Rattle.jfs_face.specs.recovery.specs.objects.specs.Readers.{Readers}
+use Rattle.jfs_face.specs.recovery.specs.Face.{Face, Pages}
+use Rattle.jfs_face.specs.recovery.specs.Core.{Core, Step, count, owner_at, IsBusy, after_steps}
+use Rattle.jfs_face.specs.recovery.specs.Core.Step.{Append}
 use Rattle.jfs_face.specs.Places.{Places}
 use Rattle.jfs_face.specs.Volume.{face_of}
 use Rattle.jfs_survival.specs.Stands.{IsCoreOf}

@@ -1,18 +1,18 @@
 -- An entry of a volume as a change of its halves.
 use Rattle.std.specs.Prelude.{◌≡◌, ◌≤◌, ℕ, true, false, [], ◌∷◌, length}
 use Rattle.jfs_ranges.specs.Apply.{touches_tx}
-use Rattle.jfs_halves.specs.Entry.{Happened, edits}
-use Rattle.jfs_halves.specs.Half.{Halves}
-use Rattle.jfs_halves.specs.Marks.{takes}
-use Rattle.jfs_halves.specs.Change.{Enters}
-use Rattle.jfs_halves.specs.Both.{Changes, Fits}
-use Rattle.jfs_recovery.specs.records.specs.Redo.{closes_in}
-use Rattle.jfs_recovery.specs.objects.specs.Readers.{Readers}
-use Rattle.jfs_recovery.specs.objects.specs.Volume.{Volume}
-use Rattle.jfs_recovery.specs.objects.specs.Owners.{Agrees}
-use Rattle.jfs_recovery.specs.Face.{Pages, IsStep}
-use Rattle.jfs_recovery.specs.Core.{Core, count, image}
-use Rattle.jfs_recovery.specs.Core.Step.{Append}
+use Rattle.jfs_logged.specs.halves.specs.Entry.{Happened, edits}
+use Rattle.jfs_logged.specs.halves.specs.Half.{Halves}
+use Rattle.jfs_logged.specs.halves.specs.Marks.{takes}
+use Rattle.jfs_logged.specs.halves.specs.Change.{Enters}
+use Rattle.jfs_logged.specs.halves.specs.Both.{Changes, Fits}
+use Rattle.jfs_face.specs.recovery.specs.records.specs.Redo.{closes_in}
+use Rattle.jfs_face.specs.recovery.specs.objects.specs.Readers.{Readers}
+use Rattle.jfs_face.specs.recovery.specs.objects.specs.Volume.{Volume}
+use Rattle.jfs_face.specs.recovery.specs.objects.specs.Owners.{Agrees}
+use Rattle.jfs_face.specs.recovery.specs.Face.{Pages, IsStep}
+use Rattle.jfs_face.specs.recovery.specs.Core.{Core, count, image}
+use Rattle.jfs_face.specs.recovery.specs.Core.Step.{Append}
 use Rattle.jfs_face.specs.Places.{Places, AreInAreas, is_map_page, is_fixed_page}
 use Rattle.jfs_face.specs.Volume.{face_of}
 use Rattle.jfs_logged.specs.Logged.{LogsWell}

@@ -1,14 +1,14 @@
 -- When an entry of a volume may be appended, and its data written.
 use Rattle.std.specs.Prelude.{◌≡◌, ◌⊎◌, ◌<◌, ℕ, Bool, true, false, List}
 use Rattle.jfs_ranges.specs.declared.edit.Edit.{Edit}
-use Rattle.jfs_recovery.specs.objects.specs.Readers.{Readers}
-use Rattle.jfs_recovery.specs.objects.specs.Volume.{Volume}
-use Rattle.jfs_recovery.specs.objects.specs.Objects.{objects}
-use Rattle.jfs_recovery.specs.objects.specs.Owners.{Agrees, IsSound}
-use Rattle.jfs_recovery.specs.kinds.specs.Owner.{owner_of, has_data}
-use Rattle.jfs_recovery.specs.Face.{Pages, IsStep}
-use Rattle.jfs_recovery.specs.Core.{Core, count, image, owner_at, IsBusy, MayAppend}
-use Rattle.jfs_recovery.specs.Sound.{IsSound as IsSoundCore}
+use Rattle.jfs_face.specs.recovery.specs.objects.specs.Readers.{Readers}
+use Rattle.jfs_face.specs.recovery.specs.objects.specs.Volume.{Volume}
+use Rattle.jfs_face.specs.recovery.specs.objects.specs.Objects.{objects}
+use Rattle.jfs_face.specs.recovery.specs.objects.specs.Owners.{Agrees, IsSound}
+use Rattle.jfs_face.specs.recovery.specs.kinds.specs.Owner.{owner_of, has_data}
+use Rattle.jfs_face.specs.recovery.specs.Face.{Pages, IsStep}
+use Rattle.jfs_face.specs.recovery.specs.Core.{Core, count, image, owner_at, IsBusy, MayAppend}
+use Rattle.jfs_face.specs.recovery.specs.Sound.{IsSound as IsSoundCore}
 use Rattle.jfs_face.specs.Places.{Places, AreInAreas, is_map_page, is_fixed_page}
 use Rattle.jfs_face.specs.Volume.{face_of, volume_with}
 use Rattle.jfs_logged.specs.Logged.{logged_in, LogsWell}

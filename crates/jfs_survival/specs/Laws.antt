@@ -4,15 +4,15 @@ use Rattle.jfs_bits.specs.declared.descriptor.Pxd.{Pxd}
 use Rattle.jfs_disk.specs.Image.{Image, page_of}
 use Rattle.jfs_disk.specs.Crash.{IsCrashImage}
 use Rattle.jfs_ranges.specs.declared.edit.Edit.{Edit}
-use Rattle.jfs_halves.specs.Entry.{Shown}
-use Rattle.jfs_halves.specs.Half.{Halves, low_in}
-use Rattle.jfs_halves.specs.Both.{BothChange, FitAll, after}
-use Rattle.jfs_halves.specs.Laws.{fresh_halves}
-use Rattle.jfs_recovery.specs.objects.specs.Readers.{Readers}
-use Rattle.jfs_recovery.specs.Face.{Face, Pages, item, IsRedone}
-use Rattle.jfs_recovery.specs.Core.{Core, Step, image, AreAllowed, after_steps}
-use Rattle.jfs_recovery.specs.Mount.{fresh, IsMounted}
-use Rattle.jfs_recovery.specs.Sound.{IsLogImage, window}
+use Rattle.jfs_logged.specs.halves.specs.Entry.{Shown}
+use Rattle.jfs_logged.specs.halves.specs.Half.{Halves, low_in}
+use Rattle.jfs_logged.specs.halves.specs.Both.{BothChange, FitAll, after}
+use Rattle.jfs_logged.specs.halves.specs.Laws.{fresh_halves}
+use Rattle.jfs_face.specs.recovery.specs.objects.specs.Readers.{Readers}
+use Rattle.jfs_face.specs.recovery.specs.Face.{Face, Pages, item, IsRedone}
+use Rattle.jfs_face.specs.recovery.specs.Core.{Core, Step, image, AreAllowed, after_steps}
+use Rattle.jfs_face.specs.recovery.specs.Mount.{fresh, IsMounted}
+use Rattle.jfs_face.specs.recovery.specs.Sound.{IsLogImage, window}
 use Rattle.jfs_face.specs.Places.{Places, AreInAreas}
 use Rattle.jfs_face.specs.Volume.{face_of}
 use Rattle.jfs_face.specs.Recovered.{IsVolumeAt, IsAfterPrefix}

@@ -9,6 +9,6 @@ pub mod Enters
 pub mod Laws
 -- libraries below, passed on
 pub use Rattle.jfs_face as face
-pub use Rattle.jfs_halves as halves
+pub use Rattle.jfs_logged.specs.halves as halves
 pub use Rattle.jfs_logged as logged
-pub use Rattle.jfs_recovery as recovery
+pub use Rattle.jfs_face.specs.recovery as recovery

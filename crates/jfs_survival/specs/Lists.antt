@@ -1,11 +1,11 @@
 -- Lists of changes: those of which nothing is asked, and the pages of the maps that go home before a sync.
 use Rattle.std.specs.Prelude.{◌≡◌, ℕ, ◌==◌, ◌||◌, Bool, true, false, List, [], ◌∷◌, ◌++◌, None}
-use Rattle.jfs_halves.specs.Half.{Halves}
-use Rattle.jfs_halves.specs.Change.{Enters, GoesHome, Tears, Writes, WriteTears, Syncs, Points}
-use Rattle.jfs_halves.specs.Both.{BothChange, Changes, FitAll, after}
-use Rattle.jfs_recovery.specs.Face.{Face, Pages}
-use Rattle.jfs_recovery.specs.Core.{Core, Step, after_steps}
-use Rattle.jfs_recovery.specs.objects.specs.Readers.{Readers}
+use Rattle.jfs_logged.specs.halves.specs.Half.{Halves}
+use Rattle.jfs_logged.specs.halves.specs.Change.{Enters, GoesHome, Tears, Writes, WriteTears, Syncs, Points}
+use Rattle.jfs_logged.specs.halves.specs.Both.{BothChange, Changes, FitAll, after}
+use Rattle.jfs_face.specs.recovery.specs.Face.{Face, Pages}
+use Rattle.jfs_face.specs.recovery.specs.Core.{Core, Step, after_steps}
+use Rattle.jfs_face.specs.recovery.specs.objects.specs.Readers.{Readers}
 use Rattle.jfs_ranges.specs.declared.edit.Edit.{Edit}
 use Rattle.jfs_face.specs.Places.{Places, AreInAreas}
 use Rattle.jfs_face.specs.Volume.{face_of}

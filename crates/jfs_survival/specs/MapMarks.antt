@@ -3,11 +3,11 @@ use Rattle.std.specs.Prelude.{◌≡◌, ℕ, suc, Bool, true, false, ◌&&◌, 
 use Rattle.jfs_bits.specs.Bits.{any_below}
 use Rattle.jfs_ranges.specs.declared.edit.Edit.{Edit}
 use Rattle.jfs_ranges.specs.declared.edit.Edit.TheVariants.{Lines, NoRedo, Alloc, Free}
-use Rattle.jfs_recovery.specs.records.specs.Marks.{is_new_extent}
-use Rattle.jfs_recovery.specs.objects.specs.Readers.{Readers}
-use Rattle.jfs_recovery.specs.Face.{Pages, IsStep}
-use Rattle.jfs_recovery.specs.Core.{Core, count, image}
-use Rattle.jfs_recovery.specs.Sound.{IsSound}
+use Rattle.jfs_face.specs.recovery.specs.records.specs.Marks.{is_new_extent}
+use Rattle.jfs_face.specs.recovery.specs.objects.specs.Readers.{Readers}
+use Rattle.jfs_face.specs.recovery.specs.Face.{Pages, IsStep}
+use Rattle.jfs_face.specs.recovery.specs.Core.{Core, count, image}
+use Rattle.jfs_face.specs.recovery.specs.Sound.{IsSound}
 use Rattle.jfs_face.specs.Places.{Places, AreInAreas, is_block_page, is_inode_page, is_map_page}
 use Rattle.jfs_face.specs.Marks.{inode_page_changes}
 use Rattle.jfs_face.specs.Volume.{face_of}

@@ -1,14 +1,14 @@
 -- What a change of a mounted volume's halves is in the core of log redo, and what it has to keep for that beside fitting.
 use Rattle.std.specs.Prelude.{◌≡◌, ◌⊎◌, ◌≤◌, ℕ, Bool, true, false, if◌then◌else◌, List, [], ◌∷◌, ◌++◌, length, IsSome}
 use Rattle.jfs_ranges.specs.Apply.{touches_tx}
-use Rattle.jfs_recovery.specs.crash_core.specs.Step.{EndsBy, IsSynced}
-use Rattle.jfs_halves.specs.Entry.{Happened, edits}
-use Rattle.jfs_halves.specs.Half.{Halves, page_in, is_open}
-use Rattle.jfs_halves.specs.Change.{Enters, Takes, Tells, HandsOut, GoesHome, Tears, Drops, Writes, WriteTears, Stops, LogStops, Syncs, Points, Knows}
-use Rattle.jfs_halves.specs.Both.{BothChange, Changes, GroupIsWritten, GroupFails, changed}
-use Rattle.jfs_recovery.specs.Face.{Face, Pages}
-use Rattle.jfs_recovery.specs.Core.{Core, Step, count, image, matters_at, owner_at, told_page, MayAppend, MayWrite, after_steps}
-use Rattle.jfs_recovery.specs.Core.Step.{Write, WriteFails, Append, Take, GroupWrite, Told, Home, HomeFails, LowSync, SyncPoint}
+use Rattle.jfs_face.specs.recovery.specs.crash_core.specs.Step.{EndsBy, IsSynced}
+use Rattle.jfs_logged.specs.halves.specs.Entry.{Happened, edits}
+use Rattle.jfs_logged.specs.halves.specs.Half.{Halves, page_in, is_open}
+use Rattle.jfs_logged.specs.halves.specs.Change.{Enters, Takes, Tells, HandsOut, GoesHome, Tears, Drops, Writes, WriteTears, Stops, LogStops, Syncs, Points, Knows}
+use Rattle.jfs_logged.specs.halves.specs.Both.{BothChange, Changes, GroupIsWritten, GroupFails, changed}
+use Rattle.jfs_face.specs.recovery.specs.Face.{Face, Pages}
+use Rattle.jfs_face.specs.recovery.specs.Core.{Core, Step, count, image, matters_at, owner_at, told_page, MayAppend, MayWrite, after_steps}
+use Rattle.jfs_face.specs.recovery.specs.Core.Step.{Write, WriteFails, Append, Take, GroupWrite, Told, Home, HomeFails, LowSync, SyncPoint}
 
 -- An entry with its image after it: an append that the core allows, which touches no page past the volume's part of the disk, and has no line of a map's page.
 pub record Joins (f : Face) (both : Halves) (core : Core) (h : Happened) (t : Pages) : Type 0 where

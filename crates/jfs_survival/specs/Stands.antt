@@ -1,13 +1,13 @@
 -- When a core of log redo is the one of a mounted volume's halves.
 use Rattle.std.specs.Prelude.{◌≡◌, ◌<◌, ◌≤◌, ℕ, Bool, true, false, List, length, map, Some, None, IsSome}
-use Rattle.jfs_recovery.specs.crash_core.specs.declared.block.Span.{Span}
-use Rattle.jfs_recovery.specs.crash_core.specs.Core.{Block}
+use Rattle.jfs_face.specs.recovery.specs.crash_core.specs.declared.block.Span.{Span}
+use Rattle.jfs_face.specs.recovery.specs.crash_core.specs.Core.{Block}
 use Rattle.jfs_ranges.specs.Apply.{touches_tx}
-use Rattle.jfs_halves.specs.Entry.{edits}
-use Rattle.jfs_halves.specs.Half.{Halves, block_in, page_in, is_open}
-use Rattle.jfs_recovery.specs.Face.{Face}
-use Rattle.jfs_recovery.specs.Core.{Core, Slot, count, entry, image, matters_at}
-use Rattle.jfs_recovery.specs.Sound.{IsSound}
+use Rattle.jfs_logged.specs.halves.specs.Entry.{edits}
+use Rattle.jfs_logged.specs.halves.specs.Half.{Halves, block_in, page_in, is_open}
+use Rattle.jfs_face.specs.recovery.specs.Face.{Face}
+use Rattle.jfs_face.specs.recovery.specs.Core.{Core, Slot, count, entry, image, matters_at}
+use Rattle.jfs_face.specs.recovery.specs.Sound.{IsSound}
 
 -- One block of both: the core's, which matters after k entries where `m k`, and the half's, with what is shown of it. There are n entries, of which those from 0 on have lines of it where `lines` says so, and after them the page has these bytes.
 -- A page of a map is dirty in the core since an entry changed that map; the half writes it whole, and never holds it as dirty.

@@ -1,9 +1,9 @@
 -- A volume that was unmounted, and one that wasn't.
-use Rattle.std.specs.Prelude.{◌≡◌, ◌≢◌, ◌⊎◌, ◌<◌, ◌+◌, ◌-◌, ◌^◌, ◌++◌, ℕ, List, set, min, None, false, Result, Ok, Err}
+use Rattle.std.specs.Prelude.{◌≡◌, ◌≢◌, ◌⊎◌, ◌<◌, ◌+◌, ◌-◌, ◌^◌, ◌++◌, ℕ, List, set, take, min, None, false, Result, Ok, Err}
 use Rattle.jfs_bits.specs.Count.{Rose}
 use Rattle.jfs_disk.specs.Image.{Image, page_of}
-use Rattle.jfs_disk.specs.Crash.{DiskState, IsCrashImage, last_of, Leaves, TearsPage}
-use Rattle.jfs_disk.specs.Moment.{IsResting}
+use Rattle.jfs_disk.specs.Crash.{DiskState, IsCrashImage, last_of, AllSince, Leaves, TearsPage}
+use Rattle.jfs_disk.specs.Moment.{IsResting, now_of}
 use Rattle.jfs_disk.specs.declared.disk.Fault.{Fault}
 use Rattle.jfs_disk.specs.declared.disk.Part.TheVariants.{Low}
 use Rattle.jfs_super.specs.Super.{super_of}
@@ -72,3 +72,7 @@ MayBeMarked superblock old log left = IsCrashImage (last_of old.past ++ last_of 
 -- So it is of a disk in this state, where nothing of the low part was pending.
 abbrev pub LeavesMarked : (tells crashes : Type 0) → List ℕ → Parts → LogParts → DiskState → Type 0
 LeavesMarked tells crashes superblock old log state = tells → crashes → IsResting (last_of old.past) → Leaves (MayBeMarked superblock old log) state
+
+-- At each moment since an unmount began it leaves of the low part what that held, but for front sectors of the superblock's new page over the old one. All fields of a superblock stand in the first sector of its page: so it is the old one or the new one.
+abbrev pub MomentsMarked : (tells crashes : Type 0) → List ℕ → Parts → List DiskState → Type 0
+MomentsMarked tells crashes superblock old past = tells → crashes → IsResting (last_of old.past) → AllSince (λ left. TearsPage 8 superblock old.disk (take old.count left)) past (now_of old.past)

@@ -6,7 +6,7 @@ ghost use Rattle.jfs_disk.specs.Moment.{IsResting, now_of};
 ghost use Rattle.jfs_disk.specs.declared.disk.Part.TheVariants.{Low};
 ghost use Rattle.jfs_mounted.specs.pages.specs.Device.{HasFault};
 ghost use Rattle.jfs_volume_calls.specs.Together.{log_parts};
-ghost use Rattle.jfs_unmount.specs.Unmount.{Ends, IsAllHome, IsUnended, IsUnmountCause, LeavesMarked, MarksClean};
+ghost use Rattle.jfs_unmount.specs.Unmount.{Ends, IsAllHome, IsUnended, IsUnmountCause, LeavesMarked, MarksClean, MomentsMarked};
 
 use jfs_disk::{Disk, Fault, Page, Part};
 use jfs_mounted::Mounted;
@@ -36,11 +36,13 @@ pub fn unmount<D: Disk>(m: Mounted<D>, superblock: &Page) -> Result<D, Unended<D
     ensures ends { IfOk result (λ disk. Ends D.tells D.tells_crashes superblock.now.0 m.volume (log_parts D.Disk m.log) (D.image disk) (D.past disk)) }
     // Where nothing of the low part was pending, a crash leaves what it may leave of both parts as they were, or a superblock that says what the new one says.
     ensures left { IfOk result (λ disk. LeavesMarked D.tells D.tells_crashes superblock.now.0 m.volume (log_parts D.Disk m.log) (last_of (D.past disk))) }
+    ensures moments { IfOk result (λ disk. MomentsMarked D.tells D.tells_crashes superblock.now.0 m.volume (D.past disk)) }
 
     ensures same_size { IfErr result (λ not. D.page_count not.disk ≡ m.volume.count + D.page_count m.log.part) }
     ensures cause { IfErr result (λ not. IsUnmountCause m.volume.faults (D.fault_count m.log.part) (D.fault_count not.disk) not.fault) }
     ensures unended { IfErr result (λ not. D.tells → IsUnended superblock.now.0 m.volume (log_parts D.Disk m.log) (D.image not.disk)) }
     ensures left_unended { IfErr result (λ not. LeavesMarked D.tells D.tells_crashes superblock.now.0 m.volume (log_parts D.Disk m.log) (last_of (D.past not.disk))) }
+    ensures moments_unended { IfErr result (λ not. MomentsMarked D.tells D.tells_crashes superblock.now.0 m.volume (D.past not.disk)) }
 {
     let Mounted { volume, log } = m;
     let mut low = volume.into_low();

@@ -1,5 +1,5 @@
 -- The entry of a file call joins, or what was reserved for it is given back.
-use Rattle.std.proofs.Common.{◌≡◌, ◌≤◌, ◌==◌, ◌&&◌, ◌||◌, ◌++◌, refl, sym, ap, ◌∙◌, subst, ℕ, Bool, true, false, not, is_some, List, [], ◌∷◌, length, Option, Some, None, inl, inr, arith}
+use Rattle.std.proofs.Common.{◌≡◌, ◌≤◌, ◌==◌, ◌&&◌, ◌||◌, ◌++◌, refl, sym, ap, ap₂, ◌∙◌, subst, ℕ, Bool, true, false, not, is_some, List, [], ◌∷◌, length, Option, Some, None, inl, inr, arith}
 use Rattle.jfs_bits.specs.declared.descriptor.Moment.{Moment}
 use Rattle.jfs_disk.specs.Image.{Image, page_of}
 use Rattle.jfs_halves.specs.crash_core.specs.Image.{pages_after}
@@ -17,6 +17,7 @@ use Rattle.jfs_plain.specs.declared.call.Entry.{Entry}
 use Rattle.jfs_records.specs.declared.note.Note.{Note}
 use Rattle.jfs_records.specs.Records.{Noted, noted}
 use Rattle.jfs_records.specs.Sizes.{entry_size}
+use Rattle.jfs_marks.specs.Notes.{notes_on}
 use Rattle.jfs_marks.specs.declared.marks.InodeMarks.{InodeMarks}
 use Rattle.jfs_halves.specs.Half.{VolumeHalf}
 use Rattle.jfs_halves.specs.Parts.{Parts, Text, StandsFor, Asked, OfEachHalf}
@@ -86,15 +87,16 @@ module _ (tells crashes : Type 0) (old mid new : Parts) (read : IsRead tells cra
   pub enters : (entry : Entry) (tx : List Edit) (put : List DataPage) (number : ℕ) (beside : Beside) → (tells → AreWhole old.blocks old.view) → are_clean put old.dirty ≡ true → IsWritable put (unreserved tx old) → mid.faults ≡ old.faults
       → FitsBeside tells (length old.map.states) (page_of old.view) old.inodes tx put beside
       → (IsWritable put (unreserved tx mid) → (now : Moment) → OfEachHalf tells crashes (unreserved tx mid) (λ seen asked half. Appends seen asked entry now (noted tx beside.notes) put mid new half (joined.Entered number)))
-      → AddsEntry entry (noted tx beside.notes) beside.marks mid new (joined.Entered number) → TellsFault mid.faults new.faults (joined.Entered number) → (tells → AreClean put mid.dirty → ShowsEntry put tx mid new (joined.Entered number))
+      → AddsEntry entry (noted tx beside.notes) beside.marks mid new (joined.Entered number) → has_room mid.text (entry_size (noted tx beside.notes)) ≡ true → TellsFault mid.faults new.faults (joined.Entered number) → (tells → AreClean put mid.dirty → ShowsEntry put tx mid new (joined.Entered number))
       → IsJoined tells crashes entry tx put number old new
-  enters entry tx put number beside whole clean writable faults fits appends (a, is) told shows = record {
+  enters entry tx put number beside whole clean writable faults fits appends (a, is) roomy told shows = record {
     joins = record {
       notes = beside.notes;
       marks = beside.marks;
       each = fits.each;
       notes_are = fits.notes_are;
       loggable = fits.loggable;
+      room = subst (λ (text : Text). has_room text (entry_size (noted tx beside.notes)) ≡ true) (ap (λ (p : Parts). p.text) read.parts) roomy;
       marks_are = fits.marks.are;
       behind = fits.behind;
       gone = fits.gone;
@@ -146,15 +148,16 @@ module _ (tells crashes : Type 0) (old mid new : Parts) (read : IsRead tells cra
     },
   )
 
-  pub crowded : (tx : List Edit) (put : List DataPage) (beside : Beside) → are_clean put old.dirty ≡ true → mid.faults ≡ old.faults → length tx ≡ length beside.notes → new ≡ mid → has_room mid.text (entry_size (noted tx beside.notes)) ≡ false → new.faults ≡ mid.faults
-      → (tells → AreClean put mid.dirty → new.view ≡ mid.view) → StaysOut old new × GoesOn tells crashes old new × LacksRoom tx old
-  crowded tx put beside clean faults each same full told shows =
+  pub crowded : (tx : List Edit) (put : List DataPage) (beside : Beside) → are_clean put old.dirty ≡ true → mid.faults ≡ old.faults → FitsBeside tells (length old.map.states) (page_of old.view) old.inodes tx put beside → new ≡ mid
+      → has_room mid.text (entry_size (noted tx beside.notes)) ≡ false → new.faults ≡ mid.faults → (tells → AreClean put mid.dirty → new.view ≡ mid.view) → StaysOut old new × GoesOn tells crashes old new × LacksRoom tells tx old
+  crowded tx put beside clean faults fits same full told shows =
       let out = stays tx put clean faults (subst (λ (p : Parts). StaysAll tells crashes mid p) (sym same) (kept_stays mid mid (kept_same mid))) told shows in (
         out.0,
         out.1,
         record {
           notes = beside.notes;
-          each = each;
+          each = fits.each;
+          notes_are = fits.notes_are;
           full = subst (λ (text : Text). has_room text (entry_size (noted tx beside.notes)) ≡ false) (ap (λ (p : Parts). p.text) read.parts) full;
         },
       )
@@ -194,6 +197,15 @@ module _ (tells crashes : Type 0) (old mid new : Parts) (read : IsRead tells cra
 
       halted_over : new ≡ record old { view = new.view; disk = new.disk; past = new.past; faults = new.faults; map = new.map; halted = new.halted }
       halted_over = over ∙ sym (ap (λ (p : Parts). record old { view = new.view; disk = new.disk; past = new.past; faults = new.faults; map = new.map; halted = p.halted }) over)
+
+-- pages that show the same lack the same room
+pub same_room : (tells : Type 0) (tx : List Edit) (old mid : Parts) → mid.text ≡ old.text → length mid.map.states ≡ length old.map.states → (tells → mid.view ≡ old.view) → LacksRoom tells tx mid → LacksRoom tells tx old
+same_room tells tx old mid text size view lacks = record {
+  notes = lacks.notes;
+  each = lacks.each;
+  notes_are = λ t. lacks.notes_are t ∙ ap₂ (λ (blocks : ℕ) (image : Image). notes_on blocks (page_of image) tx) size (view t);
+  full = ap (λ (t : Text). has_room t (entry_size (noted tx lacks.notes))) (sym text) ∙ lacks.full;
+}
 
 -- ---- what was reserved is given back
 

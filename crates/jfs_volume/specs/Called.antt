@@ -53,13 +53,14 @@ abbrev pub have_places : Blocks → List Pxd → List DataPage → Bool
 have_places map taken [] = true
 have_places map taken (d ∷ ds) = (is_in_list taken d.block || is_owned map d.block) && have_places map taken ds
 
--- It joins with its transaction, which can be logged, and with the marks of that transaction; and then the volume shows the pages after data and transaction. None of the pages that are written is dirty.
+-- It joins with its transaction, which can be logged and for which the log had room, and with the marks of that transaction; and then the volume shows the pages after data and transaction. None of the pages that are written is dirty.
 pub record JoinsWith (tells : Type 0) (entry : Entry) (tx : List Edit) (put : List DataPage) (number : ℕ) (old new : Parts) : Type 0 where
   pub notes : List Note
   pub marks : InodeMarks
   pub each : length tx ≡ length notes
   pub notes_are : tells → notes ≡ notes_on (length old.map.states) (page_of old.view) tx
   pub loggable : AllByRecursion (IsLoggable (length old.map.states)) (noted tx notes)
+  pub room : has_room old.text (entry_size (noted tx notes)) ≡ true
   pub marks_are : tells → AreMarksOf (length old.map.states) (page_of old.view) old.inodes tx put (Fits marks)
   -- where it frees a block that it took, it does so behind the take
   pub behind : frees_behind tx ≡ true
@@ -122,10 +123,11 @@ pub record FailsBy (tells crashes : Type 0) (tx : List Edit) (put : List DataPag
   pub is_fault : IsFault old.faults new.faults fault
   pub fails : StopsReading tells crashes old new ⊎ StopsPutting tells crashes tx put fault old new
 
--- the log has no room for its records, with all that waits
-pub record LacksRoom (tx : List Edit) (old : Parts) : Type 0 where
+-- the log has no room for its records, as these pages give them, with all that waits
+pub record LacksRoom (tells : Type 0) (tx : List Edit) (old : Parts) : Type 0 where
   pub notes : List Note
   pub each : length tx ≡ length notes
+  pub notes_are : tells → notes ≡ notes_on (length old.map.states) (page_of old.view) tx
   pub full : has_room old.text (entry_size (noted tx notes)) ≡ false
 
 -- Of a transaction, on these pages and this inode map, what no entry of it can have: records that a log can have, frees in their order, and marks of the inode map. Of a disk that doesn't tell, no pages say which records and marks.
@@ -144,7 +146,7 @@ pub data IsUnfit (tells : Type 0) (tx : List Edit) (put : List DataPage) (old : 
 
 abbrev pub CallIs : (tells crashes : Type 0) → Entry → List Edit → List DataPage → Parts → Parts → Called → Type 0
 CallIs tells crashes entry tx put old new (Entered number) = IsJoined tells crashes entry tx put number old new
-CallIs tells crashes entry tx put old new NoRoom = GivesBack tx old new × GoesOn tells crashes old new × LacksRoom tx old
+CallIs tells crashes entry tx put old new NoRoom = GivesBack tx old new × GoesOn tells crashes old new × LacksRoom tells tx old
 CallIs tells crashes entry tx put old new NoMemory = MayGiveBack tx old new × GoesOn tells crashes old new
 CallIs tells crashes entry tx put old new (Failed fault) = GivesBack tx old new × FailsBy tells crashes tx put fault old new
 CallIs tells crashes entry tx put old new Unfit = MayGiveBack tx old new × GoesOn tells crashes old new × IsUnfit tells tx put old
@@ -158,7 +160,7 @@ pub record StaysOut (old new : Parts) : Type 0 where
 
 abbrev pub ReservedIs : (tells crashes : Type 0) → Entry → List Edit → List DataPage → Parts → Parts → Called → Type 0
 ReservedIs tells crashes entry tx put old new (Entered number) = IsJoined tells crashes entry tx put number old new
-ReservedIs tells crashes entry tx put old new NoRoom = StaysOut old new × GoesOn tells crashes old new × LacksRoom tx old
+ReservedIs tells crashes entry tx put old new NoRoom = StaysOut old new × GoesOn tells crashes old new × LacksRoom tells tx old
 ReservedIs tells crashes entry tx put old new NoMemory = StaysOut old new × GoesOn tells crashes old new
 ReservedIs tells crashes entry tx put old new (Failed fault) = StaysOut old new × FailsBy tells crashes tx put fault old (unreserved tx new)
 ReservedIs tells crashes entry tx put old new Unfit = StaysOut old new × GoesOn tells crashes old new × IsUnfit tells tx put old

@@ -1,15 +1,20 @@
-use Rattle.std.proofs.Common.{◌≡◌, ◌<◌, ◌+◌, ◌∙◌, ◌-◌, ◌^◌, ◌++◌, ℕ, List, Err, take, drop, min, inl, inr, sym, ap, subst, arith}
+use Rattle.std.proofs.Common.{◌≡◌, ◌<◌, ◌≤◌, ◌+◌, ◌∙◌, ◌-◌, ◌^◌, ◌++◌, ℕ, List, Err, take, drop, length, min, inl, inr, sym, ap, subst, arith}
 use Rattle.jfs_bits.specs.Count.{Rose}
 use Rattle.jfs_bits.specs.declared.descriptor.Pxd.{Pxd}
 use Rattle.jfs_disk.specs.Image.{Image, page_of}
-use Rattle.jfs_disk.specs.Crash.{DiskState, AllSince, last_of, seen_of}
+use Rattle.jfs_disk.specs.Crash.{DiskState, AllSince, IsCrashImage, last_of, seen_of}
+use Rattle.jfs_disk.specs.Cut.{joined}
 use Rattle.jfs_disk.specs.Moment.{IsResting, now_of}
 use Rattle.jfs_logpages.specs.Fresh.{IsFreshLog, IsPartlyFresh}
 use Rattle.jfs_disk.specs.declared.disk.Fault.{Fault}
 use Rattle.jfs_super.specs.declared.fields.Geometry.{Geometry}
-use Rattle.jfs_mount_disk.specs.Begun.{IsCause, IsPartFault, IsPartlyMarked}
+use Rattle.jfs_mount_disk.specs.Begun.{IsCause, IsPartFault, IsPartlyMarked, LeavesLow, marked_page}
 use Rattle.jfs_mount_disk.proofs.Parts.{pages_stay, part_cause, cause_stays, low_rests, high_rests, low_now, high_now}
 use Rattle.jfs_mount_disk.proofs.Left.{still_low, whole_left, at_end, low_rested, high_rested, low_left, log_left, low_not_high}
+use Rattle.jfs_disk.proofs.Flow.{starts, crash-resting}
+use Rattle.jfs_disk.proofs.Outcomes.{tears_nothing}
+use Rattle.jfs_mount_disk.proofs.Moments.{low_moments, torn_pages}
+use Rattle.jfs_super.specs.declared.fields.Super.{Super}
 use Rattle.jfs_mount_disk.proofs.ready.begin.Goals as goal
 
 -- what is said of the log's place is said of the superblock's
@@ -186,3 +191,56 @@ returns-in-Err-mark_mounted-clause-left_high g c = λ t k rests left crash.
     (g.met.D.Disk.reads_now now k) ((g.met.D.Disk.has_pages now t).number ∙ c.in-Err-mark_mounted.ensures.pages ∙ c.in-Ok.ensures.pages.0) crash (subst (λ (past : List DiskState). IsResting (last_of past)) (sym same) resting)
     ∙ (g.met.D.Disk.reads_now now k ∙ ap (λ (past : List DiskState). seen_of (last_of past)) same ∙ sym (g.met.D.Disk.reads_now low k) ∙ (c.in-Ok.ensures.image t).0) in
     place_of (λ (p : Pxd). take p.addr left ≡ take p.addr old) log s.logpxd (ap (λ (l : Geometry). l.log) c.geometry.ensures.layout) stays)
+
+-- ---- what it leaves at each moment
+
+pub returns-in-Err-clause-moments : goal.returns-in-Err-clause-moments
+returns-in-Err-clause-moments g c = λ t k rests.
+    let s = c.args.s.now in
+    let old = g.D.Disk.image c.args.disk in
+    let past = g.D.Disk.past c.args.disk in
+    subst (λ (states : List DiskState). AllSince (LeavesLow s old) states (now_of past)) (sym (c.in-Err.ensures.same_past k))
+    (starts (LeavesLow s old) past (g.met.D.Disk.has_state c.args.disk k)
+    (λ left crash. still_low s old left (ap (λ (im : Image). take s.logpxd.addr im) (crash-resting (last_of past) left rests crash ∙ sym (g.met.D.Disk.reads_now c.args.disk k)))))
+
+-- A low part of the disk at whose moments a crash leaves no more than page 8 torn, joined to a high part: so it is of the disk.
+moments_of : (s : Super) (old low : Image) (log : Pxd) (past mine other joint : List DiskState) (cut : ℕ) → log ≡ s.logpxd → low ≡ take log.addr old → length low ≡ log.addr → 0 < length mine → cut ≡ now_of past → cut ≤ now_of mine
+    → joint ≡ joined mine other → AllSince (IsPartlyMarked s low) mine cut → AllSince (LeavesLow s old) joint (now_of past)
+moments_of s old low log past mine other joint cut place front size some same later is own =
+    let all : AllSince (λ left. IsPartlyMarked s low (take log.addr left)) (joined mine other) cut = low_moments mine other (IsPartlyMarked s low) log.addr cut (λ left tears. torn_pages 8 log.addr (marked_page s (page_of low 8)) low left size tears) some later own in
+    subst (λ (states : List DiskState). AllSince (LeavesLow s old) states (now_of past)) (sym is)
+    (subst (λ (moment : ℕ). AllSince (LeavesLow s old) (joined mine other) moment) same
+    (place_of (λ (p : Pxd). AllSince (λ left. IsPartlyMarked s (take p.addr old) (take p.addr left)) (joined mine other) cut) log s.logpxd place
+    (subst (λ (im : Image). AllSince (λ left. IsPartlyMarked s im (take log.addr left)) (joined mine other) cut) front all)))
+
+pub returns-in-Err-fresh-clause-moments : goal.returns-in-Err-fresh-clause-moments
+returns-in-Err-fresh-clause-moments g c = λ t k rests.
+    let s = c.args.s.now in
+    let old = g.D.Disk.image c.args.disk in
+    let past = g.D.Disk.past c.args.disk in
+    let log = c.geometry.result.log in
+    let low = c.in-Ok.parts.0 in
+    let high = c.in-Err-fresh.refused.part in
+    let low_past = g.D.Disk.past low in
+    let is = (c.in-Ok.ensures.past k).0 in
+    let resting = low_rests log.addr past low_past (g.met.D.Disk.has_state c.args.disk k) is rests in
+    let size = (g.met.D.Disk.has_pages low t).number ∙ c.in-Ok.ensures.pages.0 in
+    let marks = marked_page s (page_of (g.D.Disk.image low) 8) in
+    let own : AllSince (IsPartlyMarked s (g.D.Disk.image low)) low_past (now_of low_past) = starts (IsPartlyMarked s (g.D.Disk.image low)) low_past (g.met.D.Disk.has_state low k)
+    (λ left crash. tears_nothing 8 marks (g.D.Disk.image low) left (crash-resting (last_of low_past) left resting crash ∙ sym (g.met.D.Disk.reads_now low k))) in
+    moments_of s old (g.D.Disk.image low) log past low_past (g.D.Disk.past high) (g.D.Disk.past c.join.result) (now_of low_past) (ap (λ (l : Geometry). l.log) c.geometry.ensures.layout) (c.in-Ok.ensures.image t).0 size (g.met.D.Disk.has_state low k) (low_now log.addr past low_past is) (omega arith) (c.join.ensures.past k) own
+
+pub returns-in-Err-mark_mounted-clause-moments : goal.returns-in-Err-mark_mounted-clause-moments
+returns-in-Err-mark_mounted-clause-moments g c = λ t k rests.
+    let s = c.args.s.now in
+    let old = g.D.Disk.image c.args.disk in
+    let past = g.D.Disk.past c.args.disk in
+    let log = c.geometry.result.log in
+    let low = c.in-Ok.parts.0 in
+    let now = c.mark_mounted.new.low in
+    let low_past = g.D.Disk.past low in
+    let is = (c.in-Ok.ensures.past k).0 in
+    let resting = low_rests log.addr past low_past (g.met.D.Disk.has_state c.args.disk k) is rests in
+    let size = (g.met.D.Disk.has_pages low t).number ∙ c.in-Ok.ensures.pages.0 in
+    moments_of s old (g.D.Disk.image low) log past (g.D.Disk.past now) (g.D.Disk.past c.into_part.result) (g.D.Disk.past c.join-in-Err-mark_mounted.result) (now_of low_past) (ap (λ (l : Geometry). l.log) c.geometry.ensures.layout) (c.in-Ok.ensures.image t).0 size (g.met.D.Disk.has_state now k)
+    (low_now log.addr past low_past is) (c.mark_mounted.ensures.later k) (c.join-in-Err-mark_mounted.ensures.past k) (c.mark_mounted.ensures.moments t k resting)

@@ -7,7 +7,8 @@ use Rattle.jfs_super.specs.Super.{super_of}
 use Rattle.jfs_super.specs.declared.fields.Geometry.{Geometry}
 use Rattle.jfs_logpages.specs.Fresh.{IsPartlyFresh}
 use Rattle.jfs_logpages.specs.declared.log_side.LogSide.{LogSide}
-use Rattle.jfs_mount_disk.specs.Begun.{marked, IsPartlyMarked, LeavesUntouched as OfBegin}
+use Rattle.jfs_disk.proofs.Flow.{starts, crash-resting}
+use Rattle.jfs_mount_disk.specs.Begun.{marked, IsPartlyMarked, LeavesLow, LeavesUntouched as OfBegin}
 use Rattle.jfs_mount_disk.proofs.Left.{still_low}
 use Rattle.jfs_volume.specs.Start.{StandsFresh}
 use Rattle.jfs_mounted.specs.Mount.{LeavesLog, LeavesUntouched, WasCut}
@@ -110,3 +111,20 @@ started-requires-clause-files g c =
     let s = c.args.s.now in
     let rest = c.in-Ok.ensures.rest in
     files_of_low (c.in-Ok.maps) (geometry_of s) (g.D.Disk.page_count c.in-Ok-begin.begun.low) rest (let behind = subst (λ (l : Geometry). l.blocks ≤ l.log.addr) c.geometry-ring.ensures.layout c.geometry-ring.ensures.bounds.behind in omega (arith, behind, c.in-Ok-begin.ensures.parts.low_pages))
+
+-- ---- what a crash leaves at each moment of a mount that failed
+
+pub returns-in-Err-clause-moments : goal.returns-in-Err-clause-moments
+returns-in-Err-clause-moments g c = λ t k rests.
+    let s = c.args.s.now in
+    let old = g.D.Disk.image c.args.disk in
+    let past = g.D.Disk.past c.args.disk in
+    subst (λ (states : List DiskState). AllSince (LeavesLow s old) states (now_of past)) (sym (c.in-Err.ensures.past k))
+    (starts (LeavesLow s old) past (g.met.D.Disk.has_state c.args.disk k)
+    (λ left crash. still_low s old left (ap (λ (im : Image). take s.logpxd.addr im) (crash-resting (last_of past) left rests crash ∙ sym (g.met.D.Disk.reads_now c.args.disk k)))))
+
+pub returns-in-Err-begin-clause-moments : goal.returns-in-Err-begin-clause-moments
+returns-in-Err-begin-clause-moments g c = λ t k rests.
+    let s = c.args.s.now in
+    subst {A = Image × List DiskState} (λ z. AllSince (LeavesLow s z.0) (g.D.Disk.past c.in-Err-begin.not.disk) (now_of z.1)) (λ i. (c.in-Ok.ensures.image t i, c.in-Ok.ensures.past k i))
+    (c.in-Err-begin.ensures.moments t k (subst (λ (states : List DiskState). IsResting (last_of states)) (sym (c.in-Ok.ensures.past k)) rests))

@@ -1,5 +1,5 @@
 use Rattle.std.proofs.Common.{ap, ◌∙◌, arith, length, [], ◌∷◌, ◌++◌}
-use Rattle.jfs_call.specs.halves.specs.Parts.{Parts}
+use Rattle.jfs_kept_history.specs.legal.specs.served.specs.call.specs.halves.specs.Parts.{Parts}
 use Rattle.jfs_shared.proofs.Writing.{point_size, stands, pointed_both, pointed_lost, meets}
 use Rattle.jfs_shared.proofs.pointing.write_point.Goals as goal
 

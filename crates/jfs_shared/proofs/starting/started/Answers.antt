@@ -1,5 +1,5 @@
 use Rattle.std.proofs.Common.{refl}
-use Rattle.jfs_legal.specs.served.specs.volume_calls.specs.Together.{log_parts}
+use Rattle.jfs_kept_history.specs.legal.specs.served.specs.volume_calls.specs.Together.{log_parts}
 use Rattle.jfs_groups.specs.Log.{data_of}
 use Rattle.jfs_shared.proofs.Begun.{volume_stands, begun_stands}
 use Rattle.jfs_shared.proofs.starting.started.Goals as goal

@@ -1,11 +1,12 @@
-use Rattle.std.proofs.Common.{◌≡◌, ◌∙◌, ◌++◌, ◌+◌, ◌-◌, ◌≤◌, ◌<◌, ◌^◌, ℕ, List, min, ap, ap₂, sym, subst, arith}
+use Rattle.std.proofs.Common.{◌≡◌, ◌∙◌, ◌++◌, ◌+◌, ◌-◌, ◌≤◌, ◌<◌, ◌^◌, ℕ, List, take, min, ap, ap₂, sym, subst, arith}
 use Rattle.jfs_bits.specs.Count.{Rose}
 use Rattle.jfs_disk.specs.Image.{Image, ArePages, page_of}
 use Rattle.jfs_disk.specs.Crash.{DiskState, AllSince, IsCrashImage, TearsPage, last_of}
 use Rattle.jfs_disk.specs.Moment.{IsResting, now_of}
 use Rattle.jfs_volume_calls.specs.halves.specs.Parts.{Parts}
+use Rattle.jfs_mounted.specs.mount_disk.proofs.Moments.{low_moments, torn_pages}
 use Rattle.jfs_volume_calls.specs.Together.{log_parts}
-use Rattle.jfs_unmount.specs.Unmount.{with_super}
+use Rattle.jfs_unmount.specs.Unmount.{with_super, MomentsMarked}
 use Rattle.jfs_unmount.proofs.Ended.{super_page, low_page}
 use Rattle.jfs_unmount.proofs.Faults.{low_cause}
 use Rattle.jfs_unmount.proofs.Written.{IsPart, left_marked}
@@ -99,3 +100,35 @@ returns-in-Err-clause-left_unended g c = λ t k rests.
       all = subst {A = List DiskState × Image} (λ z. AllSince (TearsPage 8 c.args.superblock.now.0 z.1) (d.past now) (now_of z.0)) (λ i. (same.past i, same.image i)) (e.moments t k (subst (λ (past : List DiskState). IsResting (last_of past)) (sym same.past) rests));
     })
     (last_of (d.past c.join-in-Err.result)) (c.join-in-Err.ensures.state k ∙ ap (λ (p : g.row.D.Denot). last_of (d.past now) ++ last_of (d.past p)) c.into_part-in-Err.ensures)
+
+-- ---- and at each moment
+
+pub returns-in-Ok-clause-moments : goal.returns-in-Ok-clause-moments
+returns-in-Ok-clause-moments g c = λ t k rests.
+    let d = g.D.Disk in
+    let volume = c.args.m.volume in
+    let low = c.into_low-low.result in
+    let now = c.mark_clean.new.low in
+    let same = c.into_low-low.ensures in
+    let e = c.mark_clean.ensures in
+    let bytes = c.args.superblock.now.0 in
+    let size = (subst (ArePages (d.page_count low)) same.image (g.met.D.Disk.has_pages low t)).number ∙ same.pages.0 in
+    let all = subst {A = List DiskState × Image} (λ z. AllSince (TearsPage 8 bytes z.1) (d.past now) (now_of z.0)) (λ i. (same.past i, same.image i)) (e.moments t k (subst (λ (past : List DiskState). IsResting (last_of past)) (sym same.past) rests)) in
+    subst (λ (states : List DiskState). AllSince (λ left. TearsPage 8 bytes volume.disk (take volume.count left)) states (now_of volume.past)) (sym (c.join.ensures.past k))
+    (low_moments (d.past now) (d.past c.into_part.result) (TearsPage 8 bytes volume.disk) volume.count (now_of volume.past) (λ left tears. torn_pages 8 volume.count bytes volume.disk left size tears) (g.met.D.Disk.has_state now k)
+    (subst (λ (past : List DiskState). now_of past ≤ now_of (d.past now)) same.past (e.later k)) all)
+
+pub returns-in-Err-clause-moments_unended : goal.returns-in-Err-clause-moments_unended
+returns-in-Err-clause-moments_unended g c = λ t k rests.
+    let d = g.D.Disk in
+    let volume = c.args.m.volume in
+    let low = c.into_low-low.result in
+    let now = c.mark_clean.new.low in
+    let same = c.into_low-low.ensures in
+    let e = c.mark_clean.ensures in
+    let bytes = c.args.superblock.now.0 in
+    let size = (subst (ArePages (d.page_count low)) same.image (g.met.D.Disk.has_pages low t)).number ∙ same.pages.0 in
+    let all = subst {A = List DiskState × Image} (λ z. AllSince (TearsPage 8 bytes z.1) (d.past now) (now_of z.0)) (λ i. (same.past i, same.image i)) (e.moments t k (subst (λ (past : List DiskState). IsResting (last_of past)) (sym same.past) rests)) in
+    subst (λ (states : List DiskState). AllSince (λ left. TearsPage 8 bytes volume.disk (take volume.count left)) states (now_of volume.past)) (sym (c.join-in-Err.ensures.past k))
+    (low_moments (d.past now) (d.past c.into_part-in-Err.result) (TearsPage 8 bytes volume.disk) volume.count (now_of volume.past) (λ left tears. torn_pages 8 volume.count bytes volume.disk left size tears) (g.met.D.Disk.has_state now k)
+    (subst (λ (past : List DiskState). now_of past ≤ now_of (d.past now)) same.past (e.later k)) all)

@@ -1,5 +1,5 @@
 use Rattle.std.proofs.Common.{ℕ, List, length, subst}
-use Rattle.jfs_call.specs.volume.specs.Room.{IsWithinRoom}
+use Rattle.jfs_kept_history.specs.legal.specs.served.specs.call.specs.volume.specs.Room.{IsWithinRoom}
 use Rattle.jfs_shared.proofs.Stands.{group_stands, group_is}
 use Rattle.jfs_shared.proofs.collected.SharedVolumeCollectedRecorded.take_group.Goals as goal
 

@@ -3,7 +3,7 @@ use Rattle.std.proofs.Common.{◌≡◌, refl, inr, ap, sym, ◌∙◌, arith, N
 use Rattle.std.proofs.lemmas.List.{length-append}
 use Rattle.jfs_disk.specs.declared.disk.Fault.{Fault}
 use Rattle.jfs_groups.specs.Points.{halt_mark}
-use Rattle.jfs_legal.specs.served.specs.crash_core.specs.Step.{halted_by}
+use Rattle.jfs_kept_history.specs.legal.specs.served.specs.crash_core.specs.Step.{halted_by}
 use Rattle.jfs_shared.proofs.Stands.{few_points, marked_stands, none_of}
 use Rattle.jfs_shared.proofs.shared.SharedVolume.halt_for_log.Goals as goal
 

@@ -16,13 +16,13 @@ returns-in-Entered g c =
     let p = c.args.self.now in
     let clean : are_clean c.args.pages.now p.dirty ≡ true = sym c.are_clean.ensures ∙ search (rules) in
     enters g.D.Disk.tells g.D.Disk.tells_crashes p c.beside.new.self c.append.new.self b.read c.args.entry c.args.tx.now c.args.pages.now c.in-Entered.entry c.in-Ok.beside b.whole clean
-    (writable_by c.args.tx.now c.args.pages.now p clean (rw (← c.self.view_is, ← c.requires.taken, ← c.as_slice.ensures) (sym c.have_places.ensures ∙ search (rules)))) b.beside.0 b.beside.1 e.appends e.adds e.fault e.shows
+    (writable_by c.args.tx.now c.args.pages.now p clean (rw (← c.self.view_is, ← c.requires.taken, ← c.as_slice.ensures) (sym c.have_places.ensures ∙ search (rules)))) b.beside.0 b.beside.1 e.appends e.adds e.room e.fault e.shows
 
 pub returns-in-NoRoom : goal.returns-in-NoRoom
 returns-in-NoRoom g c =
     let b = c.in-Ok.ensures in
     let e = c.in-NoRoom.ensures in
-    crowded g.D.Disk.tells g.D.Disk.tells_crashes c.args.self.now c.beside.new.self c.append.new.self b.read c.args.tx.now c.args.pages.now c.in-Ok.beside (sym c.are_clean.ensures ∙ search (rules)) b.beside.0 b.beside.1.each e.stays e.room e.fault e.shows
+    crowded g.D.Disk.tells g.D.Disk.tells_crashes c.args.self.now c.beside.new.self c.append.new.self b.read c.args.tx.now c.args.pages.now c.in-Ok.beside (sym c.are_clean.ensures ∙ search (rules)) b.beside.0 b.beside.1 e.stays e.room e.fault e.shows
 
 pub returns-in-NoMemory : goal.returns-in-NoMemory
 returns-in-NoMemory g c =
