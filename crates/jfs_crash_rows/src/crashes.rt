@@ -4,7 +4,7 @@ ghost use Rattle.jfs_script.specs.Script.{AllFit};
 
 use crate::left::redone_tree;
 use crate::same::front_of;
-use crate::scripts::{SYNCED, busy};
+use crate::scripts::{ALL_KINDS, SYNCED, busy};
 use crate::volume::{PAGES, left, lines_of};
 use jfs_disk::{Choice, Fail, Kind, Part};
 use jfs_plain::Line;
@@ -32,18 +32,19 @@ pub fn choices(alloc: Global, seed: u32) -> Result<Vec<Choice>, AllocError> {
     Ok(all)
 }
 
-/// How many lines a volume holds after a crash and a redo, of those of a script; `None` where it has no tree after so many or more as were told.
+/// How many lines a volume holds after a crash and a redo, of those of a script, where these calls failed; `None` where it has no tree after so many or more as were told. Where none failed, it was left. The bytes of file 4 count once so many are told.
 fn survives<R: Threads + Wait + Sync>(
     rt: &R,
     alloc: Global,
     lines: &[Line],
-    fail: Fail,
+    synced: usize,
+    fails: &[Fail],
     seed: u32,
 ) -> Option<usize>
     requires { AllFit lines.now }
 {
-    let came = left(rt, alloc, lines, &[fail])?;
-    let known = if came.told < SYNCED { 0 } else { 5 };
+    let came = left(rt, alloc, lines, fails)?;
+    let known = if came.told < synced { 0 } else { 5 };
     let tree = redone_tree(alloc, came.disk.crashed(&choices(alloc, seed).ok()?))?;
     front_of(alloc, lines, came.told, &tree, known)
 }
@@ -56,22 +57,76 @@ static STOPS: [(Part, Kind, u64, u64); 4] = [
     (Part::Low, Kind::Sync, 1, 1),
 ];
 
+/// How many crashes are looked at for each of them, and how many at one call. (bench/crashes looks at more.)
+const CRASHES: u32 = 9;
+
+const AT_ONE_CALL: u32 = 1;
+
+/// Whether each of these crashes leaves a volume with what was told.
+fn all_survive<R: Threads + Wait + Sync>(
+    rt: &R,
+    alloc: Global,
+    lines: &[Line],
+    synced: usize,
+) -> bool
+    requires { AllFit lines.now }
+{
+    for (part, kind, first, apart) in STOPS.iter() {
+        for seed in 0..CRASHES {
+            let fail = Fail {
+                part: *part,
+                kind: *kind,
+                first: *first + u64::from(seed / AT_ONE_CALL) * *apart,
+                last: u64::MAX,
+            };
+            if survives(rt, alloc, lines, synced, &[fail], seed).is_none() {
+                return false;
+            }
+        }
+    }
+    true
+}
+
 #[test]
 fn told_entries_survive_crashes(rt: HostRuntime) {
     let alloc = rt.alloc();
     let text = busy(alloc).expect(&rt, "memory");
     let lines = lines_of(alloc, &text).expect(&rt, "lines");
-    for (part, kind, first, apart) in STOPS.iter() {
+    assert!(rt; all_survive(&rt, alloc, &lines, SYNCED));
+}
+
+#[test]
+fn told_entries_of_each_kind_survive_crashes(rt: HostRuntime) {
+    let alloc = rt.alloc();
+    let lines = lines_of(alloc, ALL_KINDS).expect(&rt, "lines");
+    assert!(rt; all_survive(&rt, alloc, &lines, usize::MAX));
+}
+
+/// The same of a volume that is left behind so many lines.
+fn survives_left<R: Threads + Wait + Sync>(
+    rt: &R,
+    alloc: Global,
+    lines: &[Line],
+    count: usize,
+    seed: u32,
+) -> Option<usize>
+    requires { AllFit lines.now }
+{
+    survives(rt, alloc, lines.get(..count)?, SYNCED, &[], seed)
+}
+
+/// The lengths of fronts behind which the volume is left, and how many lines of them are held. Of the second one the last two are lazy.
+static LEFT: [(usize, usize); 3] = [(9, 9), (41, 39), (79, 79)];
+
+#[test]
+fn volumes_that_are_left_survive_crashes(rt: HostRuntime) {
+    let alloc = rt.alloc();
+    let text = busy(alloc).expect(&rt, "memory");
+    let lines = lines_of(alloc, &text).expect(&rt, "lines");
+    for (count, wanted) in LEFT.iter() {
         for seed in 0..9 {
-            let first = *first + u64::from(seed) * *apart;
-            let fail = Fail {
-                part: *part,
-                kind: *kind,
-                first,
-                last: u64::MAX,
-            };
-            let front = survives(&rt, alloc, &lines, fail, seed);
-            assert!(rt; front.is_some(), "{first} {seed}");
+            let front = survives_left(&rt, alloc, &lines, *count, seed);
+            assert!(rt; front == Some(*wanted), "{count} {seed}");
         }
     }
 }

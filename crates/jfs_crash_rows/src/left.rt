@@ -3,7 +3,7 @@
 ghost use Rattle.jfs_script.specs.Script.{AllFit};
 
 use crate::same::{MOST, front_of};
-use crate::scripts::{ALL_KINDS, busy};
+use crate::scripts::{ALL_KINDS, FIRST, busy};
 use crate::volume::{is_redone, is_sound, is_unmounted, left, lines_of, pages_of};
 use jfs_disk::MemDisk;
 use jfs_image::tree_of;
@@ -37,7 +37,20 @@ fn held<R: Threads + Wait + Sync>(
     if held == came.told { Some(held) } else { None }
 }
 
-/// The lengths of fronts, and how many lines of them are held. What is lazy isn't, unless a later call waited.
+/// The lengths of fronts, and how many lines of them are held. What only reads isn't, and what is lazy isn't unless a later call waited.
+static FIRST_FRONTS: [(usize, usize); 7] = [(0, 0), (1, 1), (2, 2), (3, 3), (4, 3), (5, 3), (6, 3)];
+
+#[test]
+fn fronts_of_a_directory_with_a_file(rt: HostRuntime) {
+    let alloc = rt.alloc();
+    let lines = lines_of(alloc, FIRST).expect(&rt, "lines");
+    for (count, wanted) in FIRST_FRONTS.iter() {
+        assert!(rt; held(&rt, alloc, &lines, *count) == Some(*wanted));
+    }
+    assert!(rt; lines.len() == 6);
+}
+
+/// The same of a script of all calls.
 static FRONTS: [(usize, usize); 9] = [
     (0, 0),
     (1, 1),

@@ -2,6 +2,15 @@
 
 use std::alloc::{AllocError, Global};
 
+/// A directory, a file in it, and what reads them.
+pub const FIRST: &'static [u8] = b"mkdir /a 0755
+create /a/f 0644
+fill /a/f 0 6 41
+read /a/f 0 16
+stat /a/f
+list /a
+";
+
 /// A call of each kind.
 pub const ALL_KINDS: &'static [u8] = b"mkdir /d 0755
 create /d/a 0644

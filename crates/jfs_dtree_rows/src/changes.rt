@@ -23,6 +23,8 @@ pub enum Change {
     Lose(u32),
     /// So many levels come below page 2.
     Deepen(u8),
+    /// So many levels come below page 2, and all eight children of each page there are one: the next page, or the first leaf.
+    DeepenAlone(u8),
 }
 
 /// Does a change.
@@ -36,6 +38,7 @@ pub fn make_change(dir: &mut Dir, what: &Change) {
         Change::Clear => dir.clears(),
         Change::Lose(page) => dir.volume.bad = *page,
         Change::Deepen(copies) => deepen(dir, (*copies).min(100)),
+        Change::DeepenAlone(copies) => deepen_alone(dir, (*copies).min(100)),
     }
 }
 
@@ -50,4 +53,26 @@ fn deepen(dir: &mut Dir, copies: u8)
         dir.puts(100 + usize::from(k), 3460, next);
     }
     dir.puts(2, 3460, 100);
+}
+
+/// The same pages, but that all children of page 2 are page 100, those of each page behind it are the next one, and those of the last one the first leaf, which is page 0.
+fn deepen_alone(dir: &mut Dir, copies: u8)
+    requires { copies ≤ 100 }
+{
+    deepen(dir, copies);
+    let first = if copies > 0 { 100 } else { 0 };
+    unite(dir, 2, first);
+    for k in 0..copies {
+        let next = if k + 1 < copies { 101 + k } else { 0 };
+        unite(dir, 100 + usize::from(k), next);
+    }
+}
+
+/// All eight children of a page become this one.
+fn unite(dir: &mut Dir, page: usize, child: u8) {
+    let table = 32 * usize::from(dir.byte(page, 21));
+    for i in 0..8 {
+        let slot = usize::from(dir.byte(page, table + i));
+        dir.puts(page, 32 * slot + 4, child);
+    }
 }

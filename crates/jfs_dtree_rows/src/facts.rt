@@ -32,6 +32,8 @@ pub enum Fact {
     ListFails(DtError),
     /// They aren't, by the fault of this number.
     ListFault(u64),
+    /// So many pages were read for the last list of names.
+    Reads(u64),
     /// The directory is too deep for the name, or not.
     Deep(Kind, u32, bool),
     /// Whether it is isn't told, by the fault of this number.
@@ -52,6 +54,7 @@ pub fn is_so(alloc: Global, dir: &mut Dir, fact: &Fact) -> bool {
         Fact::Lists(whether) => dir.lists(alloc) == *whether,
         Fact::ListFails(why) => dir.list_fails(alloc, *why),
         Fact::ListFault(count) => dir.list_fails(alloc, fault(*count)),
+        Fact::Reads(reads) => dir.volume.reads == *reads,
         Fact::Deep(kind, number, deep) => answers_deep(alloc, dir, kind, *number, Ok(*deep)),
         Fact::DeepFault(kind, number, count) => {
             answers_deep(alloc, dir, kind, *number, Err(read_fault(*count)))

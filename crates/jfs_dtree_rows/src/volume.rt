@@ -19,12 +19,13 @@ pub const LIMIT: u8 = 90;
 /// The blocks of the volume.
 const BLOCKS: u32 = 256;
 
-/// The pages of a volume, of which one may be bad.
+/// The pages of a volume that counts its reads. One of them may be bad.
 #[derive(Drop)]
 pub struct Volume {
     pages: Vec<Page>,
     pub bad: u32,
     faults: u64,
+    pub reads: u64,
 }
 
 impl PageView for Volume {
@@ -54,6 +55,7 @@ impl PageView for Volume {
                 count: self.faults,
             }));
         }
+        self.reads = self.reads.saturating_add(1);
         match self.pages.get(n as usize) {
             Some(page) => Ok(page),
             None => Err(ViewError::Memory),
@@ -115,6 +117,7 @@ impl Dir {
                 pages,
                 bad: BLOCKS,
                 faults: 0,
+                reads: 0,
             },
             root,
             told: Told {
@@ -257,8 +260,9 @@ impl Dir {
         self.find(name) == Ok(self.inode_of(name.as_slice()))
     }
 
-    /// The names of the tree in their order.
+    /// The names of the tree in their order. From here on the reads are counted.
     fn list(&mut self, alloc: Global) -> Result<NameList, DtError> {
+        self.volume.reads = 0;
         list(alloc, &mut self.volume, &self.root)
     }
 

@@ -13,7 +13,7 @@ use jfs_ranges::{Edit, PageView, Tx, ViewError, apply};
 use jfs_xtree::{XtError, add, extents, new_root};
 use std::alloc::{AllocError, Global};
 
-/// A volume of 8,192 blocks, of which the first 128 are pages, that counts its reads. One of them may be such that it can't be read.
+/// A volume of 8,192 blocks, of which the first 512 are pages, that counts its reads. One of them may be such that it can't be read.
 #[derive(Drop)]
 pub struct Volume {
     pages: Vec<Page>,
@@ -69,7 +69,7 @@ impl File {
     /// No extent, and no page.
     pub fn new(alloc: Global) -> Result<File, AllocError> {
         let mut pages = Vec::new(alloc);
-        for _ in 0..128 {
+        for _ in 0..512 {
             pages.push(Page::zeros())?;
         }
         let mut root = [0; 288];
@@ -162,6 +162,10 @@ impl File {
         }
         let mut n: u32 = 0;
         for page in self.volume.pages.iter_mut() {
+            // the pages from this one on aren't the tree's
+            if n >= self.next {
+                return;
+            }
             apply(tx, n, page);
             n = n.saturating_add(1);
         }
@@ -207,12 +211,12 @@ impl File {
 
 /// 24 free blocks, from this one on where there are so many.
 fn free_from(alloc: Global, first: u32) -> Result<PxdList, AllocError>
-    ensures { IfOk result (λ fresh. (addr : ℕ) × (addr ≤ 104) × (fresh ≡ record { len = 24; addr = addr } ∷ [])) }
+    ensures { IfOk result (λ fresh. (addr : ℕ) × (addr ≤ 488) × (fresh ≡ record { len = 24; addr = addr } ∷ [])) }
 {
     let mut fresh = PxdList::new(alloc);
     fresh.push(Pxd {
         len: 24,
-        addr: u64::from(first.min(104)),
+        addr: u64::from(first.min(488)),
     })?;
     Ok(fresh)
 }

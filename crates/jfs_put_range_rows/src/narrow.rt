@@ -1,5 +1,6 @@
 //! A root of 10 slots with attributes behind them, as other tools leave it.
 
+use crate::appended::count_of;
 use crate::file::{File, eight, recorded};
 use crate::links::is_linked;
 use std::alloc::{AllocError, Global};
@@ -51,6 +52,7 @@ fn a_root_beside_attributes(rt: HostRuntime) -> Result<(), Fail> {
     // the first eight fill the root; 2,040 blocks are 8 leaves of 254 and one of 8, which no root of 8 children has
     assert!(rt; appends(rt.alloc(), &mut file, 1)?);
     assert_eq!(rt; file.pages(), 0);
+    assert_eq!(rt; count_of(rt.alloc(), &mut file), 8);
     assert!(rt; appends(rt.alloc(), &mut file, 255)?);
     assert_eq!(rt; file.pages(), 10);
     // a block between two others, in the first leaf, which is halved
@@ -60,5 +62,7 @@ fn a_root_beside_attributes(rt: HostRuntime) -> Result<(), Fail> {
     );
     assert_eq!(rt; file.pages(), 11);
     assert!(rt; is_narrow(&file.root) && is_linked(&file));
+    // 255 times eight blocks, and this one
+    assert_eq!(rt; count_of(rt.alloc(), &mut file), 2041);
     Ok(())
 }

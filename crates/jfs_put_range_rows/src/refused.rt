@@ -21,7 +21,7 @@ fn fault(count: u64) -> XtError {
 }
 
 /// So many entries of one block each at each second block, 8 at a time.
-fn fills(alloc: Global, file: &mut File, count: u64) -> Result<bool, AllocError> {
+pub fn fills(alloc: Global, file: &mut File, count: u64) -> Result<bool, AllocError> {
     for i in 0..count {
         let range = eight(alloc, i)?;
         if file.puts(alloc, range.as_slice())? != Some(Ok(())) {

@@ -26,7 +26,7 @@ fn step(tree: &mut PlainTree, call: &Call) -> Option<Reply> {
 }
 
 /// Whether a call was refused for a fault of the disk, and so did nothing.
-fn is_for_fault(reply: &Reply) -> bool {
+pub fn is_for_fault(reply: &Reply) -> bool {
     matches!(
         reply,
         Reply::Refused(Refusal::ReadOnly { .. } | Refusal::IoFault { .. })

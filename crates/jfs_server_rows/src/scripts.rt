@@ -21,7 +21,18 @@ pub enum Work {
     Six,
     /// Two lines that wait.
     Two,
+    /// Six lines that make a directory with a file, and read what was made. No client has names of its own.
+    First,
 }
+
+/// Those lines.
+const FIRST: &'static [u8] = b"mkdir /a 0755
+create /a/f 0644
+fill /a/f 0 6 41
+read /a/f 0 16
+stat /a/f
+list /a
+";
 
 // The client whose directory another one goes into.
 fn next(client: u32, clients: u32) -> u32 {
@@ -91,6 +102,7 @@ fn lines_of(alloc: Global, work: Work, client: u32, clients: u32) -> Option<Vec<
         Work::Pairs => pairs_of(alloc, client, next)?,
         Work::Six => six_of(alloc, client, next)?,
         Work::Two => two_of(alloc, client)?,
+        Work::First => Vec::from_slice(alloc, FIRST).ok()?,
     };
     let mut source = SureSource::new(text);
     let lines = read_script(alloc, &mut source).ok()?;

@@ -87,7 +87,7 @@ fn overlaps_at_the_first_place(rt: HostRuntime) {
     assert_eq!(rt; held(rt.alloc(), &AT_THE_FIRST_PLACE), 9);
 }
 
-static BESIDE_ATTRIBUTES: [Step; 14] = [
+static BESIDE_ATTRIBUTES: [Step; 16] = [
     Narrow,
     Add(10, 3),
     StaysNarrow,
@@ -102,11 +102,14 @@ static BESIDE_ATTRIBUTES: [Step; 14] = [
     AddAll(18, 2050, 3, 2),
     Pages(10),
     StaysNarrow,
-    Cut(0, 10, 4093),
+    // inside the page below the root, where four of its nine leaves stay, and to nothing
+    Cut(3050, 5, 2071),
+    StaysNarrow,
+    Cut(0, 5, 2022),
     StaysNarrow,
 ];
 
 #[test]
 fn a_root_beside_attributes(rt: HostRuntime) {
-    assert_eq!(rt; held(rt.alloc(), &BESIDE_ATTRIBUTES), 14);
+    assert_eq!(rt; held(rt.alloc(), &BESIDE_ATTRIBUTES), 16);
 }

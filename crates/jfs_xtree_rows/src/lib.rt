@@ -12,6 +12,8 @@ mod cutting;
 #[cfg(test)]
 mod hostile;
 #[cfg(test)]
+mod levels;
+#[cfg(test)]
 mod links;
 #[cfg(test)]
 mod listed;

@@ -3,7 +3,7 @@
 use crate::rack::{Rack, listed};
 use crate::racks::Step::{
     self, Chain, Clear, Fault, Head, Inner, Leaf, Listed, Lists, Lose, Reads, Recount, Refuse,
-    Root, RootHead, Three,
+    Root, RootHead, Ten, Three,
 };
 use crate::racks::{ROOT, SECOND, held};
 use crate::shelf::{entry, head};
@@ -170,6 +170,24 @@ static TWICE: [Step; 11] = [
 #[test]
 fn pages_named_twice(rt: HostRuntime) {
     assert_eq!(rt; held(rt.alloc(), &TWICE), 11);
+}
+
+// Pages that name the next one ten times, at three levels, five and eight: each page is read once, and the leaf once more, whose first extent isn't at the second key.
+static TEN_TIMES: [Step; 9] = [
+    Ten(1),
+    Refuse(2, Rule::Order),
+    Reads(3),
+    Ten(3),
+    Refuse(4, Rule::Order),
+    Reads(5),
+    Ten(6),
+    Refuse(7, Rule::Order),
+    Reads(8),
+];
+
+#[test]
+fn pages_that_name_one_child_ten_times(rt: HostRuntime) {
+    assert_eq!(rt; held(rt.alloc(), &TEN_TIMES), 9);
 }
 
 static ONE_LEVEL: [Step; 5] = [

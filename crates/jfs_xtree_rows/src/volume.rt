@@ -81,6 +81,11 @@ impl File {
         }
     }
 
+    /// Page `n`.
+    pub fn page(&mut self, n: u32) -> Option<&mut Page> {
+        self.volume.pages.get_mut(n as usize)
+    }
+
     /// How many pages the tree took.
     pub fn pages(&self) -> u32 {
         self.next
